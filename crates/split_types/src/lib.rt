@@ -1,0 +1,43 @@
+//! The plain data that every layer of splitio speaks of, and the definitions of what must hold.
+//!
+//! The types are those of a workload, of the events of its history, and of the facts that a report
+//! shows. The definitions stand in `specs/`, one file each: they look backwards through a history,
+//! which is a list with the newest event first. The contracts of the accessors say which buffers an
+//! event dirties and frees, and which actor makes it. The functions of `laws` do nothing: their
+//! contracts say what the definitions give in worked histories, and what they are in terms of places.
+//!
+//! Every other crate stands on this one.
+#![tactic(auto)]
+
+mod actor;
+mod buf;
+mod call;
+mod event;
+mod facts;
+mod hooks;
+mod ids;
+mod laws;
+mod line;
+mod list;
+mod name;
+mod progress;
+mod request;
+mod workload;
+
+pub use actor::Actor;
+pub use buf::{Buf, BufList};
+pub use call::{Call, Reply};
+pub use event::Event;
+pub use facts::{AccountFact, Facts, ReqFact, ReqState};
+pub use hooks::{actor_of, dirties, frees};
+pub use ids::{Pid, ReqId, Serial, Slot, Txn};
+pub use laws::{blame_of_parents, open_are_open, parents_are_older, worked_histories};
+pub use line::{
+    end_line, kind_word, put_actor, put_amount, put_digits, put_number, put_number_line, put_text,
+    put_word,
+};
+pub use list::{BlockList, BlockWrite, List, PlaceList, Text, WriteList};
+pub use name::Name;
+pub use progress::{drains_whole, never_stuck, stays_below};
+pub use request::{ReqKind, Request, Run};
+pub use workload::{Account, Go, Preset, Process, Sched, Workload};
