@@ -1,0 +1,4 @@
+mod Marks
+mod Counts
+mod Listing
+mod AddUp
