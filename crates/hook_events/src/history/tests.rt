@@ -1,0 +1,29 @@
+ghost use Rattle.std.specs.Prelude.{◌≡◌, ◌<◌};
+
+use super::History;
+use crate::steps::Steps;
+use split_types::Event;
+use std::alloc::{AllocError, Global};
+use std::marker::Brand;
+use std::sync::ledger::{Blank, Ledger};
+
+/// What is read of a history of two events: the newest, the oldest, and how many there are.
+fn two_events<L: Ledger>(alloc: Global, blank: Blank) -> Result<(Event, Event, usize), AllocError>
+    requires name { blank.name ≡ L.name }
+    requires parts { blank.parts ≡ L.parts }
+    requires some { 0 < L.parts }
+{
+    let mut steps: Steps<L> = Steps::new(blank);
+    let mut history = History::new(alloc)?;
+    history.room(2)?;
+    history.push(Event::Skip)?;
+    history.push(Event::Tick { d: 7 })?;
+    let newest = *history.at(1, &mut steps);
+    Ok((newest, history.as_slice()[0], history.len()))
+}
+
+#[test]
+fn keeps_events_in_order(rt: HostRuntime) {
+    let read = two_events::<Brand>(rt.alloc(), Blank::new(1));
+    assert!(rt; read == Ok((Event::Tick { d: 7 }, Event::Skip, 2)));
+}
