@@ -1,0 +1,4 @@
+pub mod Walks
+pub mod Strangers
+pub mod Runs
+pub mod Blames
