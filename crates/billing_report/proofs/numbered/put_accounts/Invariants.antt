@@ -1,0 +1,9 @@
+use Rattle.std.proofs.Common.{take}
+use Rattle.std.specs.List.{enumerate_from}
+use Rattle.split_types.specs.Lines.{lines_of}
+use Rattle.split_types.specs.ReportText.{account_words}
+use Rattle.split_types.specs.Adds.{Adds}
+use Rattle.billing_report.proofs.numbered.put_accounts.Given as goal
+
+abbrev pub invariant-loop-i : goal.invariant-loop-i
+invariant-loop-i l = Adds l.fn.out.items l.out.items (lines_of account_words (enumerate_from 1 (take l.i l.accounts)))
