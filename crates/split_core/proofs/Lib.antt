@@ -1,0 +1,15 @@
+pub mod ListLaws
+pub mod StandLaws
+pub mod ReadyReads
+pub mod StepLaws
+pub mod PutStep
+pub mod SendStep
+pub mod DoneStep
+pub mod AddStep
+pub mod KindLaws
+pub mod LengthLaws
+pub mod TurnLaws
+pub mod TagLaws
+pub mod ConserveLaws
+pub mod PlayLaws
+pub mod FactsLaws
