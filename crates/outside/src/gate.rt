@@ -2,7 +2,7 @@
 
 /// Is called before each turn of a worker. It promises nothing.
 pub trait Gate {
-    /// Is called before the turn with this number, counted from 0, of this worker.
+    /// Is called before the turn with this number, counted from 1, of this worker.
     fn before(&self, worker: u32, turn: u64);
 }
 

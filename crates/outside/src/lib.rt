@@ -3,8 +3,8 @@
 //! A [`Source`] is read and a [`Sink`] is written. Their contracts say which bytes each call moves,
 //! where the type tells its bytes, and that a call fails only where a count of faults rose. A
 //! [`Gate`] is called before a turn of a worker and promises nothing. [`read_all`] reads a source
-//! to its end or to one byte past a limit, and gives all that it took. [`write_all`] hands all
-//! bytes to a sink, or a front of them where the sink fails.
+//! to its end or to one byte past a limit, and gives all that it took where it came to the end.
+//! [`write_all`] hands all bytes to a sink, or a front of them where the sink fails.
 //!
 //! Three pairs meet these contracts. [`StreamSource`] and [`StreamSink`] are over real streams:
 //! they count each error, and tell no bytes. [`MemSource`] and [`MemSink`] are over memory and

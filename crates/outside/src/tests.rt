@@ -100,6 +100,31 @@ fn streams_are_read_and_written(rt: HostRuntime) -> Result<(), Fail> {
     Ok(())
 }
 
+/// A stream that a signal interrupts once, and that would then give bytes.
+#[derive(Drop)]
+struct Interrupted {
+    before: bool,
+}
+
+impl Read for Interrupted {
+    fn read(&mut self, buf: &mut [u8]) -> io::Result<usize> {
+        if self.before {
+            self.before = false;
+            return Err(ErrorKind::Interrupted.into());
+        }
+        Ok(buf.len().min(5))
+    }
+}
+
+#[test]
+fn a_call_that_failed_is_not_tried_again(rt: HostRuntime) -> Result<(), Fail> {
+    let mut source = StreamSource::new(Interrupted { before: true });
+    let fault = read_all(rt.alloc(), &mut source, 9).err();
+    assert_eq!(rt; fault, Some(InputFault::Read));
+    assert_eq!(rt; source.read(&mut [0u8; 4]), Ok(4));
+    Ok(())
+}
+
 #[test]
 fn gate_lets_pass() {
     FreeGate.before(1, 2);
