@@ -1,0 +1,7 @@
+mod TreeLaws
+mod PlaceLaws
+mod ChainLaws
+mod TableLaws
+mod GroupLaws
+mod FreeLaws
+mod RecencyLaws
