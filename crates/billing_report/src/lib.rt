@@ -11,10 +11,9 @@ mod requests;
 mod stack;
 
 ghost use Rattle.std.specs.Prelude.{◌≡◌, ◌+◌, [], ◌∷◌, ◌++◌, length, take, drop, codes, IfOk, OnOk};
-ghost use Rattle.std.specs.Fmt.{decimal};
 ghost use Rattle.std.specs.List.{enumerate_from};
 ghost use Rattle.split_types.specs.Adds.{Adds};
-ghost use Rattle.split_types.specs.Lines.{line, lines_of};
+ghost use Rattle.split_types.specs.Lines.{numeral, line, lines_of};
 ghost use Rattle.split_types.specs.ReportText.{report_text, request_words, made_words, made_lines};
 
 use numbered::{put_account_lines, put_billed, put_clients};
@@ -37,8 +36,8 @@ fn put_made(out: &mut Vec<u8>, made: &[u64], clients: usize) -> Result<(), Alloc
 /// Appends the lines of the requests, behind their number.
 fn put_front(out: &mut Vec<u8>, f: &Facts) -> Result<(), AllocError>
     ensures { OnOk result (Adds out.old.items out.new.items
-        (line (codes "report" ∷ decimal 1 ∷ [])
-        ++ line (codes "requests" ∷ decimal (length f.now.reqs) ∷ [])
+        (line (codes "report" ∷ numeral 1 ∷ [])
+        ++ line (codes "requests" ∷ numeral (length f.now.reqs) ∷ [])
         ++ lines_of request_words f.now.reqs)) }
 {
     put_number_line(out, b"report", 1)?;
@@ -50,7 +49,7 @@ fn put_front(out: &mut Vec<u8>, f: &Facts) -> Result<(), AllocError>
 /// Appends the clock, and the end of a report.
 fn put_end(out: &mut Vec<u8>, f: &Facts) -> Result<(), AllocError>
     ensures { OnOk result (Adds out.old.items out.new.items
-        (line (codes "clock" ∷ decimal f.now.clock ∷ []) ++ line (codes "end" ∷ []))) }
+        (line (codes "clock" ∷ numeral f.now.clock ∷ []) ++ line (codes "end" ∷ []))) }
 {
     put_number_line(out, b"clock", f.clock)?;
     put_text(out, b"end\n")?;

@@ -1,9 +1,8 @@
 //! The lines of processes, accounts and clients, which are numbered from 1.
 ghost use Rattle.std.specs.Prelude.{[], ◌∷◌, ◌++◌, ◌+◌, OnOk, codes};
-ghost use Rattle.std.specs.Fmt.{signed_decimal};
 ghost use Rattle.std.specs.List.{enumerate_from};
 ghost use Rattle.split_types.specs.Adds.{Adds};
-ghost use Rattle.split_types.specs.Lines.{fields, line, lines_of};
+ghost use Rattle.split_types.specs.Lines.{signed_numeral, fields, line, lines_of};
 ghost use Rattle.split_types.specs.ReportText.{billed_words, account_words, account_lines, made_words};
 
 use split_types::{
@@ -35,7 +34,7 @@ pub(crate) fn put_billed(out: &mut Vec<u8>, billed: &[u64]) -> Result<(), AllocE
 
 /// Appends a space, a name, a space and an amount.
 fn put_named(out: &mut Vec<u8>, name: &[u8], amount: i64) -> Result<(), AllocError>
-    ensures { OnOk result (Adds out.old.items out.new.items (fields (name.now ∷ signed_decimal amount ∷ []))) }
+    ensures { OnOk result (Adds out.old.items out.new.items (fields (name.now ∷ signed_numeral amount ∷ []))) }
 {
     put_word(out, name)?;
     put_amount(out, amount)?;
@@ -45,7 +44,7 @@ fn put_named(out: &mut Vec<u8>, name: &[u8], amount: i64) -> Result<(), AllocErr
 /// Appends what an account was granted and what is billed to it.
 fn put_moved(out: &mut Vec<u8>, account: &AccountFact) -> Result<(), AllocError>
     ensures { OnOk result (Adds out.old.items out.new.items (fields (
-        codes "granted" ∷ signed_decimal account.now.granted ∷ codes "billed" ∷ signed_decimal account.now.billed ∷ []))) }
+        codes "granted" ∷ signed_numeral account.now.granted ∷ codes "billed" ∷ signed_numeral account.now.billed ∷ []))) }
 {
     put_named(out, b"granted", account.granted)?;
     put_named(out, b"billed", account.billed)?;
@@ -55,7 +54,7 @@ fn put_moved(out: &mut Vec<u8>, account: &AccountFact) -> Result<(), AllocError>
 /// Appends what is pending in an account, and its balance.
 fn put_standing(out: &mut Vec<u8>, account: &AccountFact) -> Result<(), AllocError>
     ensures { OnOk result (Adds out.old.items out.new.items (fields (
-        codes "pending" ∷ signed_decimal account.now.pending ∷ codes "balance" ∷ signed_decimal account.now.balance ∷ []))) }
+        codes "pending" ∷ signed_numeral account.now.pending ∷ codes "balance" ∷ signed_numeral account.now.balance ∷ []))) }
 {
     put_named(out, b"pending", account.pending)?;
     put_named(out, b"balance", account.balance)?;

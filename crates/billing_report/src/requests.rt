@@ -1,9 +1,8 @@
 //! The lines of requests.
 ghost use Rattle.std.specs.Prelude.{◌≡◌, [], ◌∷◌, ◌++◌, OnOk, map};
-ghost use Rattle.std.specs.Fmt.{decimal};
 ghost use Rattle.split_types.specs.Adds.{Adds};
 ghost use Rattle.split_types.specs.EventText.{kind_word};
-ghost use Rattle.split_types.specs.Lines.{fields, line, lines_of};
+ghost use Rattle.split_types.specs.Lines.{numeral, fields, line, lines_of};
 ghost use Rattle.split_types.specs.ReportText.{request_words, share_word, state_word};
 
 use split_types::{
@@ -46,7 +45,7 @@ fn put_shares(out: &mut Vec<u8>, shares: &[(Pid, u64)]) -> Result<(), AllocError
 /// Appends what a request is, each word behind a space.
 fn put_what(out: &mut Vec<u8>, req: &Request) -> Result<(), AllocError>
     ensures { OnOk result (Adds out.old.items out.new.items
-        (fields (decimal req.now.id.0 ∷ kind_word req.now.kind ∷ decimal req.now.first ∷ decimal req.now.n ∷ []))) }
+        (fields (numeral req.now.id.0 ∷ kind_word req.now.kind ∷ numeral req.now.first ∷ numeral req.now.n ∷ []))) }
 {
     put_number(out, u64::from(req.id.0))?;
     put_word(out, kind_word(req.kind))?;
@@ -57,7 +56,7 @@ fn put_what(out: &mut Vec<u8>, req: &Request) -> Result<(), AllocError>
 
 /// Appends what came of a request, each word behind a space.
 fn put_outcome(out: &mut Vec<u8>, f: &ReqFact) -> Result<(), AllocError>
-    ensures { OnOk result (Adds out.old.items out.new.items (fields (state_word f.now.state ∷ decimal f.now.cost ∷ map share_word f.now.shares))) }
+    ensures { OnOk result (Adds out.old.items out.new.items (fields (state_word f.now.state ∷ numeral f.now.cost ∷ map share_word f.now.shares))) }
 {
     put_word(out, state_word(f.state))?;
     put_number(out, f.cost)?;

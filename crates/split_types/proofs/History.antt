@@ -44,16 +44,19 @@ pub older-next : (h : List Event) (e : Event) (i : ℕ) → event_at h i ≡ Som
 older-next [] e i at = cc
 older-next (h ▹ f) e i at = elim (cases_lt i (length h)) [
   | inl below ↦
-      older-stays h f (i + 1) (omega arith) ∙ older-next h e i (sym (event_at-stays h f i below) ∙ at) ∙ ap (λ l. l ▹ e) (sym (older-stays h f i (omega arith)))
+      older-stays h f (i + 1) (omega arith) ∙ older-next h e i (sym (event_at-stays h f i below) ∙ at)
+      ∙ ap (λ l. l ▹ e) (sym (older-stays h f i (omega arith)))
   | inr beyond ↦
       let same : i ≡ length h = omega (arith, event_at-within (h ▹ f) e i at) in
       let found : Some f ≡ Some e = sym (event_at-new h f) ∙ ap (event_at (h ▹ f)) (sym same) ∙ at in
       let one : f ≡ e = cc in
-      older-all (h ▹ f) (i + 1) (omega arith) ∙ ap (λ x. h ▹ x) one ∙ ap (λ l. l ▹ e) (sym (ap (older (h ▹ f)) same ∙ older-before h f))
+      older-all (h ▹ f) (i + 1) (omega arith) ∙ ap (λ x. h ▹ x) one
+      ∙ ap (λ l. l ▹ e) (sym (ap (older (h ▹ f)) same ∙ older-before h f))
 ]
 
 -- a read of a list with one item more
-slice_get-push : {X : Type 0} (xs : List X) (y : X) (i : ℕ) → slice_get (xs ++ y ∷ []) i ≡ (if i == length xs then Some y else slice_get xs i)
+slice_get-push : {X : Type 0} (xs : List X) (y : X) (i : ℕ)
+    → slice_get (xs ++ y ∷ []) i ≡ (if i == length xs then Some y else slice_get xs i)
 slice_get-push [] y zero = refl
 slice_get-push [] y (suc i) = grind (arith, common_steps)
 slice_get-push (x ∷ xs) y zero = grind (arith, common_steps)

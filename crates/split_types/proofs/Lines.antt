@@ -4,15 +4,7 @@ use Rattle.std.proofs.lemmas.List.{append-nil, take_more, map_more}
 use Rattle.std.specs.List.{enumerate_from}
 use Rattle.split_types.specs.Adds.{Adds}
 use Rattle.split_types.proofs.Adds.{and_then, in_all}
-use Rattle.split_types.specs.Lines.{spaced, line, fields, lines_of}
-
--- the words after the first one stand behind spaces
-pub spaced_fields : (word : List ℕ) (words : List (List ℕ)) → spaced (word ∷ words) ≡ word ++ fields words
-spaced_fields word [] = sym (append-nil word)
-spaced_fields word (next ∷ words) = ap (λ l. word ++ (32 ∷ l)) (spaced_fields next words)
-
-pub line_fields : (word : List ℕ) (words : List (List ℕ)) → line (word ∷ words) ≡ word ++ (fields words ++ 10 ∷ [])
-line_fields word words = ap (λ l. l ++ 10 ∷ []) (spaced_fields word words) ∙ append_assoc word (fields words) (10 ∷ [])
+use Rattle.split_types.specs.Lines.{line, fields, lines_of}
 
 -- the lines of two lists, one after another
 pub lines_of_append : {X : Type 0} (words : X → List (List ℕ)) (xs ys : List X) → lines_of words (xs ++ ys) ≡ lines_of words xs ++ lines_of words ys
@@ -44,7 +36,7 @@ fields_then xs ys p q = in_all _ (and_then p q) (sym (fields_append xs ys))
 
 -- a line of a word, more words, and its end
 pub whole_line : (word : List ℕ) (words : List (List ℕ)) {old was mid now : List ℕ} → Adds old was word → Adds was mid (fields words) → Adds mid now (10 ∷ []) → Adds old now (line (word ∷ words))
-whole_line word words p q r = in_all _ (and_then (and_then p q) r) (append_assoc word (fields words) (10 ∷ []) ∙ sym (line_fields word words))
+whole_line word words p q r = in_all _ (and_then (and_then p q) r) (append_assoc word (fields words) (10 ∷ []))
 
 -- one word more
 pub adds_field : {X : Type 0} (word : X → List ℕ) (xs : List X) (i : ℕ) (d : X) {old was now : List ℕ} → i < length xs → Adds old was (fields (map word (take i xs))) → Adds was now (32 ∷ word (get_or xs i d)) → Adds old now (fields (map word (take (i + 1) xs)))

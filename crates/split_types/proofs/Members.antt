@@ -11,12 +11,15 @@ pub has-append : (xs ys : List ℕ) (p : ℕ) → has (xs ++ ys) p ≡ (has xs p
 has-append xs ys p = list_any-append (λ q. q == p) xs ys
 
 -- what stands in a `flat_map` stands in one of its lists
-pub has-flat_map : {X : Type 0} (f : X → List ℕ) (xs : List X) (p : ℕ) → has (flat_map f xs) p ≡ list_any (λ x. has (f x) p) xs
+pub has-flat_map : {X : Type 0} (f : X → List ℕ) (xs : List X) (p : ℕ)
+    → has (flat_map f xs) p ≡ list_any (λ x. has (f x) p) xs
 has-flat_map f [] p = refl
 has-flat_map f (x ∷ xs) p =
-    ap (λ l. has l p) (flat_map-cons f x xs) ∙ has-append (f x) (flat_map f xs) p ∙ ap (λ t. has (f x) p || t) (has-flat_map f xs p)
+    ap (λ l. has l p) (flat_map-cons f x xs) ∙ has-append (f x) (flat_map f xs) p
+    ∙ ap (λ t. has (f x) p || t) (has-flat_map f xs p)
 
 -- a test that holds at a member of a list holds at one of its values
-pub list_any-map_at : {X : Type 0} (test : X → Bool) (f : ℕ → X) (is : List ℕ) (i : ℕ) → has is i ≡ true → test (f i) ≡ true → list_any test (map f is) ≡ true
+pub list_any-map_at : {X : Type 0} (test : X → Bool) (f : ℕ → X) (is : List ℕ) (i : ℕ) → has is i ≡ true
+    → test (f i) ≡ true → list_any test (map f is) ≡ true
 list_any-map_at test f [] i h t = cc
 list_any-map_at test f (j ∷ is) i h t = grind (arith, nat_tests, list_any-map_at test f is i)

@@ -19,7 +19,8 @@ open_at-below (h ▹ e) b i t = grind (arith, common_steps, has-append, open_at-
 
 -- an open dirtying of the history with one event more: the event's own place, or one that stays open
 pub open_at-more : (h : List Event) (e : Event) (b : Buf) (i : ℕ) → has (open_at (h ▹ e) b) i ≡ true
-    → ((i ≡ length h) × (is_dirtied e b ≡ true)) ⊎ ((has (open_at h b) i ≡ true) × ((is_freed e b ≡ false) × (is_out e b ≡ false)))
+    → ((i ≡ length h) × (is_dirtied e b ≡ true))
+    ⊎ ((has (open_at h b) i ≡ true) × ((is_freed e b ≡ false) × (is_out e b ≡ false)))
 open_at-more h e b i t = grind (arith, common_steps, has-append)
 
 -- what an event's own place needs to be open
@@ -31,7 +32,8 @@ opened h e b i at_end dirty = record {
 }
 
 -- what stays open over one event more
-stays_open : (h : List Event) (e : Event) (b : Buf) (i : ℕ) → IsOpen h b i → is_freed e b ≡ false → is_out e b ≡ false → IsOpen (h ▹ e) b i
+stays_open : (h : List Event) (e : Event) (b : Buf) (i : ℕ) → IsOpen h b i → is_freed e b ≡ false
+    → is_out e b ≡ false → IsOpen (h ▹ e) b i
 stays_open h e b i o free out = record {
   within = omega arith;
   dirtied = λ f at. o.dirtied f (sym (event_at-stays h e i o.within) ∙ at);

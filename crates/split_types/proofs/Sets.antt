@@ -26,17 +26,22 @@ pub has-range : (a n p : ℕ) → has (range_with_len a n) p ≡ (nat_le a p && 
 has-range a zero p = grind (arith, nat_tests)
 has-range a (suc n) p = grind (arith, nat_tests, has-range (a + 1) n p)
 
+-- the numbers from 1 on, by the bounds of a number among them
+has-to : (most p : ℕ) → has (range_with_len 1 most) p ≡ (nat_le 1 p && nat_le p most)
+has-to most p = grind (arith, nat_tests, has-range 1 most p)
+
 -- the processes, by the bounds of their numbers
-pub has-pids : (p : ℕ) → has pids p ≡ (nat_le 1 p && nat_le p 32)
+pub has-pids : (p : ℕ) → has pids p ≡ (nat_le 1 p && nat_le p 256)
 unfolding pids
-has-pids p = grind (arith, nat_tests, has-range 1 32 p)
+has-pids p = has-to 256 p
 
 -- what a union holds
 pub has-union_of : (xss : List (List ℕ)) (p : ℕ) → has (union_of xss) p ≡ (has pids p && some_has xss p)
 has-union_of xss p = has-filter (some_has xss) pids p
 
 -- a union depends on what its parts hold alone
-pub union-same : (xss yss : List (List ℕ)) → ((p : ℕ) → has pids p ≡ true → some_has xss p ≡ some_has yss p) → union_of xss ≡ union_of yss
+pub union-same : (xss yss : List (List ℕ)) → ((p : ℕ) → has pids p ≡ true → some_has xss p ≡ some_has yss p)
+    → union_of xss ≡ union_of yss
 union-same xss yss same = filter-same (some_has xss) (some_has yss) pids same
 
 -- a union of nothing is empty
@@ -79,21 +84,16 @@ union-flat xss yss =
     union-same (union_of xss ∷ yss) (xss ++ yss)
     (λ p h. grind (arith, nat_tests, has-union_of xss p, list_any-append (λ xs. has xs p) xss yss))
 
--- the order of two parts says nothing
-pub union-swap : (xs ys : List ℕ) (xss : List (List ℕ)) → union_of (xs ∷ ys ∷ xss) ≡ union_of (ys ∷ xs ∷ xss)
-union-swap xs ys xss = union-same (xs ∷ ys ∷ xss) (ys ∷ xs ∷ xss) (λ p h. grind (arith, nat_tests))
-
--- a part that stands twice stands once
-pub union-twice : (xs : List ℕ) (xss : List (List ℕ)) → union_of (xs ∷ xs ∷ xss) ≡ union_of (xs ∷ xss)
-union-twice xs xss = union-same (xs ∷ xs ∷ xss) (xs ∷ xss) (λ p h. grind (arith, nat_tests))
-
 -- a union of unions holds what the union of all their parts holds
-nested : {A : Type 0} (f : A → List (List ℕ)) (xs : List A) (p : ℕ) → has pids p ≡ true → some_has (map (λ x. union_of (f x)) xs) p ≡ some_has (flat_map f xs) p
+nested : {A : Type 0} (f : A → List (List ℕ)) (xs : List A) (p : ℕ) → has pids p ≡ true
+    → some_has (map (λ x. union_of (f x)) xs) p ≡ some_has (flat_map f xs) p
 nested f [] p h = refl
 nested f (x ∷ xs) p h =
-    grind (arith, nat_tests, has-union_of (f x) p, list_any-append (λ s. has s p) (f x) (flat_map f xs), nested f xs p h)
+    grind
+    (arith, nat_tests, has-union_of (f x) p, list_any-append (λ s. has s p) (f x) (flat_map f xs), nested f xs p h)
 
-pub union-nest : {A : Type 0} (f : A → List (List ℕ)) (xs : List A) → union_of (map (λ x. union_of (f x)) xs) ≡ union_of (flat_map f xs)
+pub union-nest : {A : Type 0} (f : A → List (List ℕ)) (xs : List A)
+    → union_of (map (λ x. union_of (f x)) xs) ≡ union_of (flat_map f xs)
 union-nest f xs = union-same (map (λ x. union_of (f x)) xs) (flat_map f xs) (nested f xs)
 
 -- what is left of a range by the test for one number
@@ -101,10 +101,14 @@ found : (a n p : ℕ) → filter (has (p ∷ [])) (range_with_len a n) ≡ cond 
 found a zero p = grind (arith, nat_tests)
 found a (suc n) p = grind (arith, nat_tests, found (a + 1) n p)
 
+-- one number of those from 1 on is what is left of them by the test for it
+found_to : (most p : ℕ) → 1 ≤ p → p ≤ most → filter (has (p ∷ [])) (range_with_len 1 most) ≡ p ∷ []
+found_to most p first last = grind (arith, nat_tests, found 1 most p)
+
 -- one process is a set
-pub one-is_set : (p : ℕ) → 1 ≤ p → p ≤ 32 → IsSet (p ∷ [])
+pub one-is_set : (p : ℕ) → 1 ≤ p → p ≤ 256 → IsSet (p ∷ [])
 unfolding pids
-one-is_set p first last = grind (arith, nat_tests, found 1 32 p)
+one-is_set p first last = found_to 256 p first last
 
 -- no more are below a process than there are
 rank-at_most : (set : List ℕ) (p : ℕ) → rank set p ≤ length set

@@ -1,10 +1,8 @@
--- What requests cost, what the clock says, and what is billed.
+-- What requests cost, and what the clock says.
 use Rattle.std.specs.Prelude.{ℕ, ◌+◌, ◌-◌, ◌*◌, ◌==◌, List, [], nat_lt, if◌then◌else◌}
 use Rattle.split_types.specs.declared.event.Event.{Event}
 use Rattle.split_types.specs.declared.event.Event.TheVariants.{Add, Send, Done, Tick}
 use Rattle.split_types.specs.History.{◌▹◌, adds}
-use Rattle.split_types.specs.Blame.{tag}
-use Rattle.split_types.specs.Share.{share_of}
 
 -- how far apart two blocks are
 abbrev pub distance : ℕ → ℕ → ℕ
@@ -48,8 +46,8 @@ now (h ▹ Done k id ok) = now h + cost_of h id.0
 now (h ▹ Tick d) = now h + d
 now (h ▹ e) = now h
 
--- what is billed to a process: its shares of the costs of the completed requests
-abbrev pub billed : List Event → ℕ → ℕ
-billed [] p = 0
-billed (h ▹ Done k id ok) p = billed h p + share_of (cost_of h id.0) (tag h id.0) p
-billed (h ▹ e) p = billed h p
+-- all ticks
+abbrev pub ticks : List Event → ℕ
+ticks [] = 0
+ticks (h ▹ Tick d) = ticks h + d
+ticks (h ▹ e) = ticks h

@@ -10,34 +10,28 @@ use Rattle.split_types.specs.declared.facts.ReqFact.{ReqFact}
 use Rattle.split_types.specs.declared.facts.Facts.{Facts}
 use Rattle.split_types.specs.declared.workload.Workload.{Workload}
 use Rattle.split_types.specs.declared.event.Event.{Event}
-use Rattle.split_types.specs.declared.event.Event.TheVariants.{Done}
-use Rattle.split_types.specs.History.{◌▹◌}
 use Rattle.split_types.specs.Hooks.{maker}
 use Rattle.split_types.specs.Blame.{tag}
-use Rattle.split_types.specs.Share.{share_of}
-use Rattle.split_types.specs.CostAndClock.{cost_of, now, billed}
-use Rattle.split_types.specs.Requests.{requests}
+use Rattle.split_types.specs.Share.{bill_of_parts}
+use Rattle.split_types.specs.CostAndClock.{cost_of, now}
+use Rattle.split_types.specs.Bills.{parts, billed}
+use Rattle.split_types.specs.Requests.{requests, state_of}
 use Rattle.split_types.specs.Workloads.{processes}
 
--- how far a request has come
-abbrev pub state_of : List Event → ℕ → ReqState
-state_of [] id = state.Queued
-state_of (h ▹ Done k i ok) id = if i.0 == id then (if ok then state.Done else state.Bad) else state_of h id
-state_of (h ▹ e) id = state_of h id
-
+-- the request has no completion yet
 abbrev pub is_queued : ReqState → Bool
 is_queued state.Queued = true
 is_queued _ = false
 
--- the processes of a tag, each with its share of a cost
-abbrev pub shares_of : ℕ → List ℕ → List (Pid × ℕ)
-shares_of cost set = map (λ p. (record { 0 = p }, share_of cost set p)) set
+-- the processes of a tag, each with what it bears of a cost that is split over some sets
+abbrev pub shares_of : ℕ → List (List ℕ) → List ℕ → List (Pid × ℕ)
+shares_of cost sets tag = map (λ p. (record { 0 = p }, bill_of_parts cost sets p)) tag
 
--- what is shown of a request: its cost, and its shares over its tag; both 0 where it isn't done
-abbrev pub request_fact : List Event → Request → ReqFact
-request_fact h r =
+-- what is shown of a request: its cost, and what each process of its tag bears of it; all 0 where it isn't done
+abbrev pub request_fact : Workload → List Event → Request → ReqFact
+request_fact w h r =
     let shown = if is_queued (state_of h r.id.0) then 0 else cost_of h r.id.0 in
-    record { req = r; state = state_of h r.id.0; cost = shown; shares = shares_of shown (tag h r.id.0) }
+    record { req = r; state = state_of h r.id.0; cost = shown; shares = shares_of shown (parts w h r.id.0) (tag h r.id.0) }
 
 -- the event is made by the same actor; completions count together
 abbrev pub is_by : Actor → Event → Bool
@@ -61,8 +55,8 @@ shown_actors w = map (λ p. Client (record { 0 = p })) (processes w) ++ Wb ∷ C
 
 abbrev pub facts_of : Workload → List Event → Facts
 facts_of w h = record {
-  reqs = map (request_fact h) (requests h);
-  billed = map (billed h) (processes w);
+  reqs = map (request_fact w h) (requests h);
+  billed = map (billed w h) (processes w);
   accounts = [];
   made = map (made h) (shown_actors w);
   clock = now h;

@@ -1,5 +1,5 @@
 -- Names of files.
-use Rattle.std.specs.Prelude.{◌≡◌, ℕ, ◌-◌, ◌≤◌, ◌==◌, List, ◌++◌, length, take, drop, replicate, nat_lt, nat_le, Bool, ◌&&◌, ◌||◌}
+use Rattle.std.specs.Prelude.{◌≡◌, ℕ, ◌-◌, ◌≤◌, ◌==◌, List, ◌++◌, length, take, drop, replicate, nat_lt, nat_le, Bool, ◌&&◌, ◌||◌, IsTrue}
 use Rattle.std.specs.Char.{is_ascii_digit, is_ascii_lowercase}
 use Rattle.std.specs.List.{list_all}
 use Rattle.std.proofs.Common.{arith, ap, ◌∙◌, sym, length-take, take-append-drop}
@@ -21,9 +21,12 @@ pub record IsPadded (bytes : List ℕ) (len : ℕ) : Type 0 where
   pub size : length bytes ≡ 32
   pub within : len ≤ 32
   pub zeros : drop len bytes ≡ replicate (32 - len) 0
+  pub named : IsTrue (is_name (take len bytes))
 
 pub length-front : (bytes : List ℕ) (len : ℕ) → IsPadded bytes len → length (take len bytes) ≡ len
 length-front bytes len h = omega (arith, h.size, h.within, length-take len bytes)
 
 pub padded-front : (bytes : List ℕ) (len : ℕ) → IsPadded bytes len → padded (take len bytes) ≡ bytes
-padded-front bytes len h = ap (λ n. take len bytes ++ replicate (32 - n) 0) (length-front bytes len h) ∙ ap (λ l. take len bytes ++ l) (sym h.zeros) ∙ take-append-drop len bytes
+padded-front bytes len h =
+    ap (λ n. take len bytes ++ replicate (32 - n) 0) (length-front bytes len h)
+    ∙ ap (λ l. take len bytes ++ l) (sym h.zeros) ∙ take-append-drop len bytes

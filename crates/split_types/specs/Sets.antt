@@ -4,7 +4,7 @@ use Rattle.std.specs.List.{list_any, range_with_len}
 
 -- the numbers that a process may have
 unfoldable pub pids : List ℕ
-pids = range_with_len 1 32
+pids = range_with_len 1 256
 
 -- p stands in the list
 abbrev pub has : List ℕ → ℕ → Bool

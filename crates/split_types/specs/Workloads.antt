@@ -1,5 +1,5 @@
 -- What a workload asks for.
-use Rattle.std.specs.Prelude.{ℕ, ◌+◌, ◌-◌, ◌*◌, ◌/◌, ◌==◌, List, [], ◌∷◌, ◌++◌, length, map, filter, position, take, sum_by, Bool, Option}
+use Rattle.std.specs.Prelude.{ℕ, ◌+◌, ◌-◌, ◌*◌, ◌/◌, ◌==◌, List, [], ◌∷◌, ◌++◌, length, map, filter, position, take, slice_get, sum_by, nat_lt, Bool, Option, option_map, unwrap_or, if◌then◌else◌}
 use Rattle.std.specs.List.{range_with_len}
 use Rattle.std.specs.Str.{bytes_eq}
 use Rattle.split_types.specs.declared.ids.Pid.{Pid}
@@ -48,9 +48,21 @@ bound w = 128 * (length w.calls + spans w) + 1
 abbrev pub file_named : List Preset → List ℕ → Option ℕ
 file_named files name = position (λ f. bytes_eq f.name name) files
 
--- the block of page g of a preset file: their pages stand one after another from block 526 on
+-- the number of pages of the preset file of this serial; 0 where there is none
+abbrev pub pages_in : Workload → ℕ → ℕ
+pages_in w s = unwrap_or (option_map (λ f. f.pages) (slice_get w.files s)) 0
+
+-- the place of page g of a preset file among the pages of all preset files
+abbrev pub page_index : Workload → ℕ → ℕ → ℕ
+page_index w s g = sum_by (λ f. f.pages) (take s w.files) + g
+
+-- the first block of data
+abbrev pub first_block : Workload → ℕ
+first_block w = if nat_lt w.version 2 then 526 else 1318
+
+-- the block of page g of a preset file: their pages stand one after another from the first block of data on
 abbrev pub page_block : Workload → ℕ → ℕ → ℕ
-page_block w s g = 526 + sum_by (λ f. f.pages) (take s w.files) + g
+page_block w s g = first_block w + page_index w s g
 
 -- the pages of these files, of which the first has serial s
 abbrev pub pages_from : ℕ → List Preset → List Buf

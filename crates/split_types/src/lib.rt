@@ -12,6 +12,7 @@
 mod actor;
 mod buf;
 mod call;
+mod draining;
 mod event;
 mod facts;
 mod hooks;
@@ -20,24 +21,27 @@ mod laws;
 mod line;
 mod list;
 mod name;
-mod progress;
 mod request;
 mod workload;
 
 pub use actor::Actor;
 pub use buf::{Buf, BufList};
 pub use call::{Call, Reply};
+pub use draining::{drains_whole, never_stuck, plays_legal, stays_below};
 pub use event::Event;
 pub use facts::{AccountFact, Facts, ReqFact, ReqState};
 pub use hooks::{actor_of, dirties, frees};
 pub use ids::{Pid, ReqId, Serial, Slot, Txn};
-pub use laws::{blame_of_parents, open_are_open, parents_are_older, worked_histories};
+pub use laws::{
+    bills_conserve, blame_is_set, blamed_are_blamed, dirty_are_open, dirty_have_causes,
+    open_are_open, parents_are_older, parents_are_parents, parts_are_tags, running_causes,
+    sends_show_costs, tag_is_blame, worked_histories,
+};
 pub use line::{
     end_line, kind_word, put_actor, put_amount, put_digits, put_number, put_number_line, put_text,
     put_word,
 };
 pub use list::{BlockList, BlockWrite, List, PlaceList, Text, WriteList};
 pub use name::Name;
-pub use progress::{drains_whole, never_stuck, stays_below};
-pub use request::{ReqKind, Request, Run};
+pub use request::{ReqKind, Request, Run, Service};
 pub use workload::{Account, Go, Preset, Process, Sched, Workload};

@@ -1,9 +1,8 @@
 //! Writers of the words of a line, which append to the bytes printed so far.
 ghost use Rattle.std.specs.Prelude.{◌≡◌, [], ◌∷◌, ◌++◌, OnOk};
-ghost use Rattle.std.specs.Fmt.{decimal, signed_decimal};
 ghost use Rattle.split_types.specs.Adds.{Adds};
 ghost use Rattle.split_types.specs.EventText.{kind_word};
-ghost use Rattle.split_types.specs.Lines.{line, actor_word};
+ghost use Rattle.split_types.specs.Lines.{numeral, signed_numeral, line, actor_word};
 
 use crate::actor::Actor;
 use crate::request::ReqKind;
@@ -28,24 +27,27 @@ pub fn put_word(out: &mut Vec<u8>, word: &[u8]) -> Result<(), AllocError>
 }
 
 /// Appends a number, with no space.
+#[tactic(auto, using(crate::proofs::Numerals::numeral_is_decimal))]
 pub fn put_digits(out: &mut Vec<u8>, n: u64) -> Result<(), AllocError>
-    ensures { OnOk result (Adds out.old.items out.new.items (decimal n)) }
+    ensures { OnOk result (Adds out.old.items out.new.items (numeral n)) }
 {
     let mut buffer = Buffer::new();
     put_text(out, buffer.format(n).as_bytes())
 }
 
 /// Appends a space and a number.
+#[tactic(auto, using(crate::proofs::Numerals::numeral_is_decimal))]
 pub fn put_number(out: &mut Vec<u8>, n: u64) -> Result<(), AllocError>
-    ensures { OnOk result (Adds out.old.items out.new.items (32 ∷ decimal n)) }
+    ensures { OnOk result (Adds out.old.items out.new.items (32 ∷ numeral n)) }
 {
     let mut buffer = Buffer::new();
     put_word(out, buffer.format(n).as_bytes())
 }
 
 /// Appends a space and a number, which has a sign where it is negative.
+#[tactic(auto, using(crate::proofs::Numerals::signed_is_decimal))]
 pub fn put_amount(out: &mut Vec<u8>, n: i64) -> Result<(), AllocError>
-    ensures { OnOk result (Adds out.old.items out.new.items (32 ∷ signed_decimal n)) }
+    ensures { OnOk result (Adds out.old.items out.new.items (32 ∷ signed_numeral n)) }
 {
     let mut buffer = Buffer::new();
     put_word(out, buffer.format(n).as_bytes())
@@ -53,7 +55,7 @@ pub fn put_amount(out: &mut Vec<u8>, n: i64) -> Result<(), AllocError>
 
 /// Appends a space, letters and a number.
 fn put_lettered(out: &mut Vec<u8>, letters: &[u8], n: u32) -> Result<(), AllocError>
-    ensures { OnOk result (Adds out.old.items out.new.items (32 ∷ letters.now ++ decimal n)) }
+    ensures { OnOk result (Adds out.old.items out.new.items (32 ∷ letters.now ++ numeral n)) }
 {
     put_word(out, letters)?;
     put_digits(out, u64::from(n))?;
@@ -98,7 +100,7 @@ pub fn end_line(out: &mut Vec<u8>) -> Result<(), AllocError>
 
 /// Appends a line of a word and a number.
 pub fn put_number_line(out: &mut Vec<u8>, word: &[u8], n: u64) -> Result<(), AllocError>
-    ensures { OnOk result (Adds out.old.items out.new.items (line (word.now ∷ decimal n ∷ []))) }
+    ensures { OnOk result (Adds out.old.items out.new.items (line (word.now ∷ numeral n ∷ []))) }
 {
     put_text(out, word)?;
     put_number(out, n)?;

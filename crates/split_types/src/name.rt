@@ -76,6 +76,15 @@ impl Name {
         }
     }
 
+    /// How many bytes the name has: 1 to 32, and all may stand in a name.
+    pub fn len(&self) -> usize
+        ensures len { result ≡ length self.now }
+        ensures most { result ≤ 32 }
+        ensures named { IsTrue (is_name self.now) }
+    {
+        self.len
+    }
+
     /// The bytes of the name.
     pub fn as_slice(&self) -> &[u8]
         ensures { result.now ≡ self.now }

@@ -29,3 +29,11 @@ pub struct Run {
     pub page: u32,
     pub n: u32,
 }
+
+/// What writeback is doing: nothing, or serving a run, whose pages may have got their blocks.
+#[derive(Clone, Copy, Debug, PartialEq, Eq)]
+pub enum Service {
+    Idle,
+    Serving(Run),
+    Mapped(Run),
+}

@@ -1,5 +1,5 @@
 use Rattle.std.proofs.Common.{arith}
-use Rattle.split_types.proofs.Lines.{adds_numbered}
+use Rattle.split_types.proofs.Shared.{adds_numbered}
 use Rattle.split_types.specs.ReportText.{account_words}
 use Rattle.billing_report.proofs.numbered.put_accounts.Goals as goal
 

@@ -1,5 +1,5 @@
 use Rattle.std.proofs.Common.{arith}
-use Rattle.split_types.proofs.Lines.{adds_item}
+use Rattle.split_types.proofs.Shared.{adds_item}
 use Rattle.split_types.specs.ReportText.{request_words}
 use Rattle.billing_report.proofs.requests.put_requests.Goals as goal
 

@@ -1,5 +1,5 @@
 use Rattle.std.proofs.Common.{arith}
-use Rattle.split_types.proofs.Lines.{adds_field}
+use Rattle.split_types.proofs.Shared.{adds_field}
 use Rattle.split_types.specs.ReportText.{share_word}
 use Rattle.billing_report.proofs.requests.put_shares.Goals as goal
 

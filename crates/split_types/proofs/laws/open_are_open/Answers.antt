@@ -1,5 +1,5 @@
-use Rattle.split_types.proofs.OpenDirtyings.{open_are_open}
+use Rattle.split_types.proofs.OpenDirtyings as law
 use Rattle.split_types.proofs.laws.open_are_open.Goals as goal
 
 pub returns : goal.returns
-returns c = open_are_open
+returns c = law.open_are_open

@@ -12,4 +12,8 @@ returns c = record {
   of_writer_after_add = record { requests = refl; processes = refl; time = refl };
   of_writer_between_serve_and_map = record { requests = refl; processes = refl; time = refl };
   of_three_creators = record { requests = refl; processes = refl; time = refl };
+  of_three_pages = record { requests = refl; processes = refl; time = refl };
+  of_three_pages_by_block = record { requests = refl; processes = refl; time = refl };
+  of_late_homes = record { requests = refl; processes = refl; time = refl };
+  of_two_creators = record { requests = refl; processes = refl; time = refl };
 }

@@ -1,0 +1,122 @@
+-- In a legal history each request is sent once at most, and its send shows its cost.
+use Rattle.std.proofs.Common.{◌≡◌, ℕ, ◌==◌, ◌<◌, List, [], length, Bool, false, not, Some, refl, arith, subst, sym, inl, inr, cond, count_by, ◌∙◌, ap}
+use Rattle.std.proofs.lemmas.Bool.{cases_order, cond-true, cond-false, eq-eqb, ne_eqb}
+use Rattle.std.proofs.lemmas.Option.{same_Some}
+use Rattle.split_types.specs.declared.ids.ReqId.{ReqId}
+use Rattle.split_types.specs.declared.workload.Workload.{Workload}
+use Rattle.split_types.specs.declared.event.Event.{Event}
+use Rattle.split_types.specs.declared.event.Event.TheVariants.{Send}
+use Rattle.split_types.specs.History.{◌▹◌, adds, event_at}
+use Rattle.split_types.specs.Hooks.{maker}
+use Rattle.split_types.specs.Requests.{is_numbered, queued}
+use Rattle.split_types.specs.CostAndClock.{head, cost_at, cost_of, first_of, length_of}
+use Rattle.split_types.specs.Writeback.{request_for}
+use Rattle.split_types.specs.Accepted.{IsAccepted}
+use Rattle.split_types.specs.Legal.{IsLegal}
+use Rattle.split_types.specs.LegalHistories.{SendsShowCosts}
+use Rattle.split_types.specs.Proving.Came.{Came}
+use Rattle.split_types.specs.Proving.Came.Came.{came_enter, came_admit, came_put, came_ret, came_serve, came_add, came_send, came_done}
+use Rattle.split_types.specs.Proving.Known.{Known}
+use Rattle.split_types.proofs.CameLaws.{came}
+use Rattle.split_types.proofs.History.{event_at-new, event_at-stays, event_at-within}
+use Rattle.split_types.proofs.KnownLaws.{known, picked_there, queued_of}
+use Rattle.split_types.proofs.Lists.{count_push, count_filter_less, count_filter_out, counted_here}
+
+-- a request that was sent isn't queued any more
+pub record IsSent (h : List Event) (id : ReqId) (cost : ℕ) : Type 0 where
+  pub below : id.0 < adds h
+  pub gone : count_by (is_numbered id) (queued h) ≡ 0
+  pub shown : cost_of h id.0 ≡ cost
+
+sent_next : (w : Workload) (h : List Event) (e : Event) (id : ReqId) (cost : ℕ) → IsAccepted w → Known w h
+    → Came w h e → IsSent h id cost → IsSent (h ▹ e) id cost
+sent_next w h e id cost accepted f (came_enter p c has out) s = record {
+  below = s.below;
+  gone = s.gone;
+  shown = s.shown;
+}
+sent_next w h e id cost accepted f (came_admit p c has in' out may) s = record {
+  below = s.below;
+  gone = s.gone;
+  shown = s.shown;
+}
+sent_next w h e id cost accepted f (came_put p name off len fill t writing left) s = record {
+  below = s.below;
+  gone = s.gone;
+  shown = s.shown;
+}
+sent_next w h e id cost accepted f (came_ret p name off len fill t writing all) s = record {
+  below = s.below;
+  gone = s.gone;
+  shown = s.shown;
+}
+sent_next w h e id cost accepted f (came_serve t k idle found) s = record {
+  below = s.below;
+  gone = s.gone;
+  shown = s.shown;
+}
+sent_next w h e id cost accepted f (came_done k r at) s = record { below = s.below; gone = s.gone; shown = s.shown }
+sent_next w h e id cost accepted f (came_add run at) s = record {
+  below = omega (arith, s.below);
+  gone =
+      omega (
+        arith,
+        count_push (is_numbered id) (queued h) (request_for w (adds h) run),
+        other (adds h == id.0) (ne_eqb (adds h) id.0 (λ (e : adds h ≡ id.0). omega (arith, s.below))),
+        s.gone,
+      );
+  shown = s.shown;
+}
+  where
+    other : (b : Bool) → b ≡ false → ◌≡◌ {A = ℕ} (cond b 1 0) 0
+    other b is = rw is refl
+sent_next w h e id cost accepted f (came_send r free picked) s =
+    let there = picked_there w h r accepted picked
+    in let apart : (id.0 ≡ r.id.0 → ⊥) =
+    λ same. omega
+    (arith, counted_here (is_numbered id) (queued h) there.0 r there.1 (eq-eqb r.id.0 id.0 (sym same)), s.gone)
+    in record {
+      below = s.below;
+      gone = omega (arith, count_filter_less (is_numbered id) (λ q. not (is_numbered r.id q)) (queued h), s.gone);
+      shown =
+          cond-false (id.0 == r.id.0) (cost_at (head h) (first_of h id.0) (length_of h id.0)) (cost_of h id.0)
+          (ne_eqb id.0 r.id.0 apart)
+          ∙ s.shown;
+    }
+
+-- the send itself
+sent_now : (w : Workload) (h : List Event) (id : ReqId) (cost : ℕ) → IsAccepted w → Known w h
+    → Came w h (Send id cost) → IsSent (h ▹ Send id cost) id cost
+sent_now w h id cost accepted f (came_send r free picked) =
+    let there = picked_there w h r accepted picked
+    in let of = queued_of w h there.0 r f there.1
+    in record {
+      below = of.below;
+      gone =
+          count_filter_out (is_numbered r.id) (λ q. not (is_numbered r.id q)) (queued h)
+          (λ q numbered. ap not numbered);
+      shown =
+          cond-true (r.id.0 == r.id.0) (cost_at (head h) (first_of h r.id.0) (length_of h r.id.0))
+          (cost_of h r.id.0) (eq-eqb r.id.0 r.id.0 refl)
+          ∙ ap (λ n. cost_at (head h) n (length_of h r.id.0)) of.first_is ∙ ap (cost_at (head h) r.first) of.length_is;
+    }
+
+pub sent_is : (w : Workload) (h : List Event) (i : ℕ) (id : ReqId) (cost : ℕ) → IsAccepted w → IsLegal w h
+    → event_at h i ≡ Some (Send id cost) → IsSent h id cost
+sent_is w [] i id cost accepted legal at = absurd (cc)
+sent_is w (h ▹ e) i id cost accepted legal at =
+    let f = known w h accepted legal.1
+    in let c = came w h (maker e) e legal.0
+    in elim (cases_order i (length h)) [
+      | inl same ↦
+          (let here : e ≡ Send id cost =
+          same_Some e (Send id cost) (sym (event_at-new h e) ∙ ap (event_at (h ▹ e)) (sym same) ∙ at)
+          in subst (λ d. IsSent (h ▹ d) id cost) (sym here) (sent_now w h id cost accepted f (subst (Came w h) here c)))
+      | inr (inl below) ↦
+          sent_next w h e id cost accepted f c
+          (sent_is w h i id cost accepted legal.1 (sym (event_at-stays h e i below) ∙ at))
+      | inr (inr past) ↦ (let within = event_at-within (h ▹ e) (Send id cost) i at in absurd (omega arith))
+    ]
+
+pub sends_show_costs : SendsShowCosts
+sends_show_costs w h i id cost accepted legal at = (sent_is w h i id cost accepted legal at).shown

@@ -1,0 +1,6 @@
+-- What only proofs need: facts of legal histories, and from which row of which table an event comes. Nothing here is a
+-- definition that a contract rests on.
+pub mod Runs
+pub mod Came
+pub mod Overwrites
+pub mod Known
