@@ -1,4 +1,7 @@
 mod Marks
+mod Words
 mod Counts
 mod Listing
 mod AddUp
+mod Parts
+pub mod TagLaws

@@ -1,30 +1,96 @@
--- The processes of a set, listed one by one.
-use Rattle.std.proofs.Common.{◌≡◌, ℕ, ◌+◌, ◌-◌, ◌≤◌, Bool, true, false, List, [], ◌∷◌, ◌++◌, map, refl, ap, ◌∙◌, arith, append-nil}
-use Rattle.std.proofs.lemmas.List.{map-append}
-use Rattle.std.specs.Prelude.{filter}
+-- The processes of a set one by one: those from a number on, where a word has no mark from there on, and where it has.
+use Rattle.std.proofs.Common.{◌≡◌, ℕ, zero, suc, ◌+◌, ◌-◌, ◌*◌, ◌/◌, ◌%◌, ◌^◌, ◌<◌, ◌≤◌, Bool, true, false, List, [], ◌∷◌, ◌++◌, refl, ap, sym, ◌∙◌, arith, get_or, inl, inr, length}
+use Rattle.std.specs.Prelude.{◌==◌, filter}
+use Rattle.std.specs.Int.{bit_at, trailing_zeros, w64}
 use Rattle.std.specs.List.{range_with_len}
+use Rattle.std.proofs.lemmas.Bool.{cases_lt}
 use Rattle.std.proofs.lemmas.List.Elements.{filter-append}
-use Rattle.split_types.specs.declared.ids.Pid.{Pid}
-use Rattle.cause_set.specs.Members.{pid_of}
+use Rattle.std.proofs.lemmas.Nat.{pow-add}
+use Rattle.std.proofs.lemmas.Nat.Bits.{bit_at-trailing_zeros, bit_at_above, bit_at-zero}
+use Rattle.std.proofs.Math.Nat.{div-div-eq-div-mul, div-le_self}
+use Rattle.cause_set.specs.Marks.{is_marked, marked_from}
 use Rattle.cause_set.proofs.Counts.{range-split}
 
--- what passes a test among the first n numbers, as processes
-abbrev pub listed : (ℕ → Bool) → ℕ → List Pid
-listed f n = map pid_of (filter f (range_with_len 1 n))
+-- a range where nothing passes
+nothing : (f : ℕ → Bool) (a n : ℕ) → ((q : ℕ) → a ≤ q → q < a + n → f q ≡ false) → filter f (range_with_len a n) ≡ []
+nothing f a zero none = refl
+nothing f a (suc n) none =
+    let rest : filter f (range_with_len (a + 1) n) ≡ [] =
+    nothing f (a + 1) n (λ q low high. none q (omega arith) (omega arith)) in
+    rw (none a (omega arith) (omega arith), rest) refl
 
-before_last : (f : ℕ → Bool) (n : ℕ) → listed f (n + 1) ≡ listed f n ++ map pid_of (filter f ((1 + n) ∷ []))
-before_last f n =
-    ap (λ l. map pid_of (filter f l)) (range-split 1 n 1) ∙ ap (map pid_of) (filter-append f (range_with_len 1 n) ((1 + n) ∷ []))
-    ∙ map-append pid_of (filter f (range_with_len 1 n)) (filter f ((1 + n) ∷ []))
+-- numbers without marks are passed over
+pub marked_from-skip : (words : List ℕ) (a b : ℕ) → a ≤ b → b ≤ 257
+    → ((q : ℕ) → a ≤ q → q < b → is_marked words q ≡ false) → marked_from words a ≡ marked_from words b
+marked_from-skip words a b up within none =
+    let sum : 257 - a ≡ (b - a) + (257 - b) = omega arith in
+    let end : a + (b - a) ≡ b = omega arith in
+    ap (λ n. filter (is_marked words) (range_with_len a n)) sum
+    ∙ ap (filter (is_marked words)) (range-split a (b - a) (257 - b))
+    ∙ filter-append (is_marked words) (range_with_len a (b - a)) (range_with_len (a + (b - a)) (257 - b))
+    ∙ ap (λ l. l ++ filter (is_marked words) (range_with_len (a + (b - a)) (257 - b)))
+    (nothing (is_marked words) a (b - a) (λ q low high. none q low (omega arith)))
+    ∙ ap (λ i. filter (is_marked words) (range_with_len i (257 - b))) end
 
-pub listed-with : (f : ℕ → Bool) (n : ℕ) → 1 ≤ n → f n ≡ true → listed f (n + 1 - 1) ≡ listed f (n - 1) ++ pid_of n ∷ []
-listed-with f n some is =
-    let more : n + 1 - 1 ≡ n - 1 + 1 = omega arith in
-    let last : 1 + (n - 1) ≡ n = omega arith in
-    rw (more, before_last f (n - 1), last, is) refl
+-- a bit of a shifted word
+shifted : (w k i : ℕ) → bit_at (w / 2 ^ k) i ≡ bit_at w (k + i)
+shifted w k i = ap (λ n. n % 2) (div-div-eq-div-mul w (2 ^ k) (2 ^ i) ∙ ap (λ d. w / d) (sym (pow-add 2 k i)))
 
-pub listed-without : (f : ℕ → Bool) (n : ℕ) → 1 ≤ n → f n ≡ false → listed f (n + 1 - 1) ≡ listed f (n - 1)
-listed-without f n some is =
-    let more : n + 1 - 1 ≡ n - 1 + 1 = omega arith in
-    let last : 1 + (n - 1) ≡ n = omega arith in
-    rw (more, before_last f (n - 1), last, is) (append-nil (listed f (n - 1)))
+-- the mark of a number, in the word shifted to an earlier one of the same word
+mark_shifted : (words : List ℕ) (a q i : ℕ) → 1 ≤ a → q ≡ a + i → (a - 1) % 64 + i < 64
+    → is_marked words q ≡ (bit_at (get_or words ((a - 1) / 64) 0 / 2 ^ ((a - 1) % 64)) i == 1)
+mark_shifted words a q i some e within =
+    let word : (q - 1) / 64 ≡ (a - 1) / 64 = omega arith in
+    let place : (q - 1) % 64 ≡ (a - 1) % 64 + i = omega arith in
+    rw (word, place, shifted (get_or words ((a - 1) / 64) 0) ((a - 1) % 64) i) refl
+
+-- nothing is marked from a number to the end of its word, where the shifted word is 0
+pub marked_from-word : (words : List ℕ) (a : ℕ) → 1 ≤ a → a ≤ 256
+    → get_or words ((a - 1) / 64) 0 / 2 ^ ((a - 1) % 64) ≡ 0
+    → marked_from words a ≡ marked_from words (((a - 1) / 64 + 1) * 64 + 1)
+marked_from-word words a some within none =
+    marked_from-skip words a (((a - 1) / 64 + 1) * 64 + 1) (omega arith) (omega arith)
+    (λ q low high. mark_shifted words a q (q - a) some (omega arith) (omega arith)
+    ∙ ap (λ w. bit_at w (q - a) == 1) none ∙ ap (λ d. d == 1) (bit_at-zero (q - a)))
+
+-- the next number with a mark is where the shifted word has its lowest bit
+abbrev pub shifted_word : List ℕ → ℕ → ℕ
+shifted_word words a = get_or words ((a - 1) / 64) 0 / 2 ^ ((a - 1) % 64)
+
+abbrev pub next_mark : List ℕ → ℕ → ℕ
+next_mark words a = a + trailing_zeros w64 (shifted_word words a)
+
+pub record Next (words : List ℕ) (a : ℕ) : Type 0 where
+  pub within : next_mark words a ≤ 256
+  pub found : marked_from words a ≡ next_mark words a ∷ marked_from words (next_mark words a + 1)
+
+pub marked_from-next : (words : List ℕ) (a : ℕ) → 1 ≤ a → a ≤ 256 → get_or words ((a - 1) / 64) 0 < 2 ^ 64
+    → 0 < shifted_word words a → Next words a
+marked_from-next words a some last fits any =
+    let z = trailing_zeros w64 (shifted_word words a) in
+    let lowest =
+    bit_at-trailing_zeros w64 (shifted_word words a) any
+    (omega (arith, div-le_self (get_or words ((a - 1) / 64) 0) (2 ^ ((a - 1) % 64))))
+    in
+    elim (cases_lt ((a - 1) % 64 + z) 64) [
+      | inl within ↦
+          let more : 257 - (a + z) ≡ suc (257 - (a + z + 1)) = omega arith in
+          let here : is_marked words (a + z) ≡ true =
+          mark_shifted words a (a + z) z some refl within ∙ ap (λ d. d == 1) lowest.1 in
+          record {
+            within = omega arith;
+            found =
+                marked_from-skip words a (a + z) (omega arith) (omega arith)
+                (λ q low high. mark_shifted words a q (q - a) some (omega arith) (omega arith)
+                ∙ ap (λ d. d == 1) (lowest.2 (q - a) (omega arith)))
+                ∙ ap (λ n. filter (is_marked words) (range_with_len (a + z) n)) more ∙ rw here refl;
+          }
+      | inr above ↦
+          absurd
+          (omega (
+            arith,
+            lowest.1,
+            shifted (get_or words ((a - 1) / 64) 0) ((a - 1) % 64) z,
+            bit_at_above (get_or words ((a - 1) / 64) 0) 64 ((a - 1) % 64 + z) fits above,
+          ))
+    ]

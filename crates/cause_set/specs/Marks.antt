@@ -1,6 +1,7 @@
 -- How a set of processes lies in memory: a mark for each process, in words of 64 bits.
 use Rattle.std.specs.Prelude.{◌≡◌, ℕ, zero, suc, ◌+◌, ◌-◌, ◌*◌, ◌/◌, ◌%◌, ◌==◌, Bool, if◌then◌else◌, List, [], ◌∷◌, filter, slice_index}
 use Rattle.std.specs.Int.{bit_at}
+use Rattle.std.specs.List.{range_with_len}
 use Rattle.split_types.specs.Sets.{pids, has}
 
 -- the process has its mark
@@ -10,6 +11,10 @@ is_marked words p = bit_at (slice_index words ((p - 1) / 64)) ((p - 1) % 64) == 
 -- the processes that have their marks, rising
 abbrev pub marked : List ℕ → List ℕ
 marked words = filter (is_marked words) pids
+
+-- the processes from a number on that have their marks, rising
+abbrev pub marked_from : List ℕ → ℕ → List ℕ
+marked_from words from = filter (is_marked words) (range_with_len from (257 - from))
 
 -- the number of n bits of which those are set that pass the test
 abbrev pub number_of : (ℕ → Bool) → ℕ → ℕ

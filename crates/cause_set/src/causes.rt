@@ -3,15 +3,16 @@ ghost use Rattle.std.specs.Prelude.{◌≡◌, ◌↔◌, ◌≤◌, ◌<◌, �
 ghost use Rattle.split_types.specs.Sets.{has, union_of, IsSet};
 ghost use Rattle.split_types.specs.Share.{rank};
 ghost use Rattle.std.specs.List.{range_with_len};
-ghost use Rattle.cause_set.specs.Marks.{is_marked, marked};
+ghost use Rattle.cause_set.specs.Marks.{is_marked, marked, words_of};
 ghost use Rattle.cause_set.specs.Members.{pid_of};
 
+use crate::Members;
 use split_types::{List, Pid};
 use std::alloc::{AllocError, Global};
 use std::marker::Model;
 
 /// The processes are numbered from 1 up to this.
-const LAST: u32 = 32;
+pub(crate) const LAST: u32 = 256;
 
 /// A set of processes, of some bytes that may be copied; it takes no other memory.
 #[derive(Clone, Copy, Debug)]
@@ -77,19 +78,6 @@ fn marks_below(marks: &[u64; 4], processes: u32) -> u32
         + ones_below(d, processes.saturating_sub(192))
 }
 
-/// The processes that have their marks, rising.
-fn list_of(marks: &[u64; 4], alloc: Global) -> Result<List<Pid>, AllocError>
-    ensures { IfOk result (λ members. members ≡ map pid_of (marked marks.now)) }
-{
-    let mut members = List::new(alloc);
-    for number in 1..LAST + 1 {
-        if is_marked(marks, number) {
-            members.push(Pid(number))?;
-        }
-    }
-    Ok(members)
-}
-
 impl Causes {
     /// The empty set.
     pub fn none() -> Causes
@@ -101,7 +89,7 @@ impl Causes {
     /// The set of one process.
     pub fn one(p: Pid) -> Causes
         requires first { 1 ≤ p.0 }
-        requires last { p.0 ≤ 32 }
+        requires last { p.0 ≤ 256 }
         ensures { result ≡ p.0 ∷ [] }
     {
         let place = p.0 - 1;
@@ -136,6 +124,20 @@ impl Causes {
         self.marks == other.marks
     }
 
+    /// Whether the set has no process.
+    pub fn is_empty(&self) -> bool
+        ensures { IsTrue result ↔ (self.now ≡ []) }
+    {
+        self.is_same(&Causes::none())
+    }
+
+    /// The law of sets: the list of a set rises, and holds processes alone. It does nothing.
+    pub fn rises(&self)
+        ensures { IsSet self.now }
+    {
+        let _marks = self.marks;
+    }
+
     /// How many processes are in the set.
     pub fn len(&self) -> u32
         ensures value { result ≡ length self.now }
@@ -153,10 +155,28 @@ impl Causes {
         marks_below(&self.marks, p.0.saturating_sub(1).min(LAST))
     }
 
+    /// The set as four words: the mark of process p is bit `(p - 1) % 64` of word `(p - 1) / 64`.
+    pub fn words(&self) -> [u64; 4]
+        ensures { result ≡ words_of self.now }
+    {
+        self.marks
+    }
+
+    /// The processes of the set, one by one, rising.
+    pub fn iter(&self) -> Members
+        ensures { result ≡ self.now }
+    {
+        Members::new(self.marks)
+    }
+
     /// The processes of the set, rising.
     pub fn to_list(&self, alloc: Global) -> Result<List<Pid>, AllocError>
         ensures { IfOk result (λ members. members ≡ map pid_of self.now) }
     {
-        list_of(&self.marks, alloc)
+        let mut members = List::new(alloc);
+        for p in self.iter() {
+            members.push(p)?;
+        }
+        Ok(members)
     }
 }

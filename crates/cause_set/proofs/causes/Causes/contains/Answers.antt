@@ -5,4 +5,5 @@ use Rattle.cause_set.proofs.Marks.{marked-is_set}
 use Rattle.cause_set.proofs.causes.Causes.contains.Goals as goal
 
 pub returns-clause-rising : goal.returns-clause-rising
-returns-clause-rising c = let P : List ℕ → Type 0 = λ s. IsSet s in subst P c.self.view_is (marked-is_set c.self.inside.marks)
+returns-clause-rising c =
+    let P : List ℕ → Type 0 = λ s. IsSet s in subst P c.self.view_is (marked-is_set c.self.inside.marks)

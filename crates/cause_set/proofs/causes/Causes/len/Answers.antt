@@ -9,4 +9,5 @@ pub returns-clause-value : goal.returns-clause-value
 returns-clause-value c = c.marks_below.ensures ∙ sym (length-marked c.self.inside.marks) ∙ ap length c.self.view_is
 
 pub returns-clause-rising : goal.returns-clause-rising
-returns-clause-rising c = let P : List ℕ → Type 0 = λ s. IsSet s in subst P c.self.view_is (marked-is_set c.self.inside.marks)
+returns-clause-rising c =
+    let P : List ℕ → Type 0 = λ s. IsSet s in subst P c.self.view_is (marked-is_set c.self.inside.marks)

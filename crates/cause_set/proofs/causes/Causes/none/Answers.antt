@@ -1,5 +1,6 @@
 -- No marks are no processes.
-use Rattle.cause_set.proofs.Marks.{marked-none, no_marks-are}
+use Rattle.cause_set.proofs.Marks.{marked-none}
+use Rattle.cause_set.proofs.Words.{no_marks-are}
 use Rattle.cause_set.proofs.causes.Causes.none.Goals as goal
 
 pub returns : goal.returns

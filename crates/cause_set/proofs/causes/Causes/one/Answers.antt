@@ -1,5 +1,6 @@
 -- One mark is one process.
-use Rattle.cause_set.proofs.Marks.{marked-one, one_mark-are}
+use Rattle.cause_set.proofs.Marks.{marked-one}
+use Rattle.cause_set.proofs.Words.{one_mark-are}
 use Rattle.cause_set.proofs.causes.Causes.one.Goals as goal
 
 pub returns : goal.returns

@@ -2,7 +2,8 @@
 use Rattle.std.proofs.Common.{[], ◌∷◌, ap, ◌∙◌}
 use Rattle.split_types.specs.Sets.{union_of}
 use Rattle.cause_set.specs.Marks.{marked}
-use Rattle.cause_set.proofs.Marks.{marked-union, joined-are}
+use Rattle.cause_set.proofs.Marks.{marked-union}
+use Rattle.cause_set.proofs.Words.{joined-are}
 use Rattle.cause_set.proofs.causes.Causes.union.Goals as goal
 
 pub returns : goal.returns
