@@ -1,13 +1,22 @@
-//! What a request costs on the disk's one arm, in the clock's units.
+//! What a request costs on the disk's one arm, and what a put is expected to cost, in the clock's units.
 //!
 //! A request of n blocks costs the move of the head to its first block, by a table of distances,
 //! and 2 for each block. The contract of `cost` says that it is the cost of the definitions.
 //!
-//! The crates that send requests and that keep the clock stand on this one.
+//! A [`Recent`] remembers the pages of the last four puts in a file. A page that comes right after one of
+//! them is expected to be written out behind it, without a move of the head, so that its estimate is 2;
+//! else it is 52. Contracts see a [`Recent`] as the list of these pages, the newest first. Only its `new`
+//! asks for memory.
+//!
+//! The crates that send requests, that keep the clock and that open estimates stand on this one.
 #![tactic(auto)]
+
+mod recent;
 
 ghost use Rattle.std.specs.Prelude.{◌≡◌, ◌≤◌};
 ghost use Rattle.split_types.specs.CostAndClock.{seek, cost_at};
+
+pub use recent::Recent;
 
 /// What it costs to move the head over a distance.
 fn seek(distance: u32) -> u64
@@ -37,6 +46,20 @@ pub fn cost(head: u32, first: u32, n: u32) -> u64
 #[cfg(test)]
 mod tests {
     use super::*;
+    use std::test::Fail;
+
+    #[test]
+    fn estimates_of_puts(rt: HostRuntime) -> Result<(), Fail> {
+        let mut recent = Recent::new(rt.alloc())?;
+        assert_eq!(rt; recent.seen(0), 52);
+        assert_eq!(rt; recent.seen(1), 2);
+        assert_eq!(rt; recent.seen(5), 52);
+        assert_eq!(rt; recent.seen(5), 52);
+        assert_eq!(rt; recent.seen(5), 52);
+        assert_eq!(rt; recent.seen(2), 2, "1 is the oldest of the last four");
+        assert_eq!(rt; recent.seen(2), 52, "1 is forgotten");
+        Ok(())
+    }
 
     #[test]
     fn costs_of_distances(rt: HostRuntime) {
