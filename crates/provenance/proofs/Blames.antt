@@ -9,10 +9,10 @@ use Rattle.split_types.specs.History.{event_at, older}
 use Rattle.split_types.specs.Parents.{parents_of}
 use Rattle.split_types.specs.Sets.{has, union_of, IsSet}
 use Rattle.split_types.specs.Blame.{own_blame, blame}
-use Rattle.split_types.proofs.Sets.{union-one, union-flat, union-is_set}
-use Rattle.split_types.proofs.History.{event_at-within, length-older_at}
-use Rattle.split_types.proofs.Parents.{parents-below}
-use Rattle.split_types.proofs.Blame.{blame-at}
+use Rattle.split_types.proofs.Shared.{union-one, union-flat, union-is_set}
+use Rattle.split_types.proofs.Shared.{event_at-within, length-older_at}
+use Rattle.split_types.proofs.Shared.{parents-below}
+use Rattle.split_types.proofs.Shared.{blame-at}
 
 -- at first there is the event's own process
 pub own-alone : (own : List ℕ) (causes : List ℕ) → causes ≡ union_of (own ∷ []) → causes ≡ union_of (causes ∷ [])

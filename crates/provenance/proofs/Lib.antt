@@ -1,4 +1,5 @@
 pub mod Walks
+pub mod RoundWalks
 pub mod Strangers
 pub mod Runs
 pub mod Blames

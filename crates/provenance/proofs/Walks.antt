@@ -10,9 +10,10 @@ use Rattle.split_types.specs.declared.event.Event.TheVariants.{Serve, Seal}
 use Rattle.split_types.specs.History.{◌▹◌, event_at, older}
 use Rattle.split_types.specs.Hooks.{is_dirtied, is_freed, is_out}
 use Rattle.split_types.specs.OpenDirtyings.{open_at}
-use Rattle.split_types.specs.Parents.{last_serve, seal_place, before_seal}
-use Rattle.split_types.proofs.History.{older-next, length-older_at, event_at-within}
-use Rattle.provenance.specs.Found.{is_serve, is_seal_of}
+use Rattle.split_types.specs.Parents.{last_serve}
+use Rattle.split_types.specs.Rounds.{seal_place}
+use Rattle.split_types.specs.ByPlace.{is_serve, is_seal_of}
+use Rattle.split_types.proofs.Shared.{older-next, length-older_at, event_at-within}
 
 pub older-none : (h : List Event) → older h 0 ≡ []
 older-none [] = refl
@@ -37,20 +38,13 @@ pub serve-step : (h : List Event) (e : Event) (n : ℕ) → event_at h n ≡ Som
 serve-step h e n at =
     ap last_serve (older-next h e n at) ∙ serve_more (older h n) e ∙ ap (λ k. if is_serve e then k ∷ [] else last_serve (older h n)) (before h e n at)
 
-seal_more : (h : List Event) (e : Event) (t : Txn) → seal_place (h ▹ e) t ≡ (if is_seal_of e t then length h ∷ [] else seal_place h t)
+seal_more : (h : List Event) (e : Event) (t : Txn) → seal_place (h ▹ e) t ≡ (if is_seal_of t e then length h ∷ [] else seal_place h t)
 seal_more h (Seal u k) t = refl
 seal_more h e t = refl
 
-pub seal-step : (h : List Event) (e : Event) (n : ℕ) (t : Txn) → event_at h n ≡ Some e → seal_place (older h (n + 1)) t ≡ (if is_seal_of e t then n ∷ [] else seal_place (older h n) t)
+pub seal-step : (h : List Event) (e : Event) (n : ℕ) (t : Txn) → event_at h n ≡ Some e → seal_place (older h (n + 1)) t ≡ (if is_seal_of t e then n ∷ [] else seal_place (older h n) t)
 seal-step h e n t at =
-    ap (λ l. seal_place l t) (older-next h e n at) ∙ seal_more (older h n) e t ∙ ap (λ k. if is_seal_of e t then k ∷ [] else seal_place (older h n) t) (before h e n at)
-
-before_more : (h : List Event) (e : Event) (t : Txn) → before_seal (h ▹ e) t ≡ (if is_seal_of e t then h else before_seal h t)
-before_more h (Seal u k) t = refl
-before_more h e t = refl
-
-pub before-step : (h : List Event) (e : Event) (n : ℕ) (t : Txn) → event_at h n ≡ Some e → before_seal (older h (n + 1)) t ≡ (if is_seal_of e t then older h n else before_seal (older h n) t)
-before-step h e n t at = ap (λ l. before_seal l t) (older-next h e n at) ∙ before_more (older h n) e t
+    ap (λ l. seal_place l t) (older-next h e n at) ∙ seal_more (older h n) e t ∙ ap (λ k. if is_seal_of t e then k ∷ [] else seal_place (older h n) t) (before h e n at)
 
 -- an event after which no older dirtying is open ends the walk
 pub open-closed : (h : List Event) (e : Event) (n rest : ℕ) (b : Buf) (old new : List ℕ)
@@ -82,20 +76,11 @@ serve-passed h e n rest is at other = rw (is, serve-step h e n at, other) refl
 pub serve-end : (h : List Event) (rest : ℕ) → rest ≤ 0 → [] ≡ last_serve (older h rest)
 serve-end h rest le = let none : rest ≡ 0 = omega arith in rw (none, older-none h) refl
 
-pub seal-found : (h : List Event) (e : Event) (n rest : ℕ) (t : Txn) → rest ≡ n + 1 → event_at h n ≡ Some e → is_seal_of e t ≡ true → n ∷ [] ≡ seal_place (older h rest) t
+pub seal-found : (h : List Event) (e : Event) (n rest : ℕ) (t : Txn) → rest ≡ n + 1 → event_at h n ≡ Some e → is_seal_of t e ≡ true → n ∷ [] ≡ seal_place (older h rest) t
 seal-found h e n rest t is at seal = rw (is, seal-step h e n t at, seal) refl
 
-pub seal-passed : (h : List Event) (e : Event) (n rest : ℕ) (t : Txn) → rest ≡ n + 1 → event_at h n ≡ Some e → is_seal_of e t ≡ false → seal_place (older h n) t ≡ seal_place (older h rest) t
+pub seal-passed : (h : List Event) (e : Event) (n rest : ℕ) (t : Txn) → rest ≡ n + 1 → event_at h n ≡ Some e → is_seal_of t e ≡ false → seal_place (older h n) t ≡ seal_place (older h rest) t
 seal-passed h e n rest t is at other = rw (is, seal-step h e n t at, other) refl
 
 pub seal-end : (h : List Event) (rest : ℕ) (t : Txn) → rest ≤ 0 → [] ≡ seal_place (older h rest) t
 seal-end h rest t le = let none : rest ≡ 0 = omega arith in rw (none, older-none h) refl
-
-pub before-found : (h : List Event) (e : Event) (n rest : ℕ) (t : Txn) → rest ≡ n + 1 → event_at h n ≡ Some e → is_seal_of e t ≡ true → older h n ≡ before_seal (older h rest) t
-before-found h e n rest t is at seal = rw (is, before-step h e n t at, seal) refl
-
-pub before-passed : (h : List Event) (e : Event) (n rest : ℕ) (t : Txn) → rest ≡ n + 1 → event_at h n ≡ Some e → is_seal_of e t ≡ false → before_seal (older h n) t ≡ before_seal (older h rest) t
-before-passed h e n rest t is at other = rw (is, before-step h e n t at, other) refl
-
-pub before-end : (h : List Event) (rest : ℕ) (t : Txn) → rest ≤ 0 → older h 0 ≡ before_seal (older h rest) t
-before-end h rest t le = let none : rest ≡ 0 = omega arith in rw (none, older-none h) refl

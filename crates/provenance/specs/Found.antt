@@ -1,9 +1,11 @@
--- What a search finds, as a list, and the tests by which it finds it.
-use Rattle.std.specs.Prelude.{ℕ, ◌==◌, List, [], ◌∷◌, Option, Some, None, Bool, true, false}
+-- What a search finds, as a list.
+use Rattle.std.specs.Prelude.{ℕ, List, [], ◌∷◌, Option, Some, None}
 use Rattle.split_types.specs.declared.ids.Pid.{Pid}
 use Rattle.split_types.specs.declared.ids.Txn.{Txn}
 use Rattle.split_types.specs.declared.event.Event.{Event}
-use Rattle.split_types.specs.declared.event.Event.TheVariants.{Serve, Seal}
+use Rattle.split_types.specs.declared.event.Event.TheVariants.{Seal}
+use Rattle.split_types.specs.History.{event_at, older}
+use Rattle.split_types.specs.Rounds.{Sealing}
 
 -- the place that was found, if any
 abbrev pub listed : Option ℕ → List ℕ
@@ -15,12 +17,11 @@ abbrev pub numbers : Option Pid → List ℕ
 numbers None = []
 numbers (Some p) = p.0 ∷ []
 
--- the event is a serve
-abbrev pub is_serve : Event → Bool
-is_serve (Serve serial page n) = true
-is_serve _ = false
+-- the transaction of a seal; 0 is none
+abbrev pub sealed_txn : Option Event → Txn
+sealed_txn (Some (Seal t k)) = t
+sealed_txn _ = record { 0 = 0 }
 
--- the event is the seal of the transaction
-abbrev pub is_seal_of : Event → Txn → Bool
-is_seal_of (Seal u k) t = u.0 == t.0
-is_seal_of _ t = false
+-- the seal at a place, with the history before it
+abbrev pub sealing_at : List Event → ℕ → Sealing
+sealing_at h i = record { txn = sealed_txn (event_at h i); before = older h i }

@@ -15,7 +15,7 @@ use std::sync::ledger::Ledger;
 fn set_of(p: Pid) -> Causes
     ensures { result ≡ union_of ((p.0 ∷ []) ∷ []) }
 {
-    if 1 <= p.0 && p.0 <= 32 {
+    if 1 <= p.0 && p.0 <= 256 {
         Causes::one(p)
     } else {
         Causes::none()

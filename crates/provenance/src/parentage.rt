@@ -4,12 +4,13 @@ ghost use Rattle.std.specs.List.{flat_map};
 ghost use Rattle.split_types.specs.History.{older};
 ghost use Rattle.split_types.specs.OpenDirtyings.{open_at};
 ghost use Rattle.split_types.specs.Parents.{pages_of, metadata_buffers, buffer_at, parents_of, parents_of_add};
+ghost use Rattle.split_types.specs.Rounds.{round_of};
 ghost use Rattle.provenance.specs.Found.{listed};
 
 use crate::target::{Target, block_target};
-use crate::walk::{last_serve, open_before, seal_place};
+use crate::walk::{last_serve, open_before, round_places, seal_place};
 use hook_events::{History, Steps};
-use split_types::{Event, PlaceList, ReqKind, Request, Serial};
+use split_types::{Event, PlaceList, ReqKind, Request, Serial, Txn};
 use std::alloc::{AllocError, Global};
 use std::sync::ledger::Ledger;
 
@@ -53,20 +54,25 @@ fn open_metadata<L: Ledger>(
     Ok(places)
 }
 
-/// The open dirtyings of one block of metadata after the first `count` events.
-fn open_block<L: Ledger>(
+/// The open dirtyings of a block of metadata before each seal of a transaction's round, after the first
+/// `count` events.
+fn open_in_round<L: Ledger>(
     alloc: Global,
     h: &History,
     count: usize,
+    t: Txn,
     block: u32,
     steps: &mut Steps<L>,
 ) -> Result<PlaceList, AllocError>
     requires within { count ≤ length h.now.events }
     requires short { length h.now.events ≤ 2 ^ 32 }
-    ensures { IfOk result (λ places. places ≡ open_at (older h.now.events count) (buffer_at block)) }
+    ensures { IfOk result (λ places. places ≡ flat_map (λ seal. open_at seal.before (buffer_at block)) (round_of (older h.now.events count) t)) }
 {
+    let seals = round_places(alloc, h, count, t, steps)?;
     let mut places = PlaceList::new(alloc);
-    open_before(h, count, &block_target(block), &mut places, steps)?;
+    for seal in seals.as_slice() {
+        open_before(h, *seal as usize, &block_target(block), &mut places, steps)?;
+    }
     Ok(places)
 }
 
@@ -100,10 +106,7 @@ fn parents_of_add<L: Ledger>(
         ReqKind::Log(t) | ReqKind::Commit(t) | ReqKind::Clear(t) => {
             list_of(alloc, seal_place(h, count, t, steps))
         }
-        ReqKind::Home(t) => {
-            let sealed = seal_place(h, count, t, steps).unwrap_or(0);
-            open_block(alloc, h, sealed, r.first, steps)
-        }
+        ReqKind::Home(t) => open_in_round(alloc, h, count, t, r.first, steps),
     }
 }
 

@@ -1,16 +1,18 @@
 //! Walks back from a place of a history.
-ghost use Rattle.std.specs.Prelude.{◌≡◌, ◌≤◌, ◌<◌, ◌+◌, ◌^◌, [], ◌∷◌, ◌++◌, length, OnOk, IfSome, unwrap_or, if◌then◌else◌};
+ghost use Rattle.std.specs.Prelude.{◌≡◌, ◌≤◌, ◌<◌, ◌+◌, ◌^◌, [], ◌∷◌, ◌++◌, length, map, All, OnOk, IfOk, IfSome, if◌then◌else◌};
 ghost use Rattle.split_types.specs.Hooks.{is_dirtied};
 ghost use Rattle.split_types.specs.History.{older};
 ghost use Rattle.split_types.specs.OpenDirtyings.{open_at};
-ghost use Rattle.split_types.specs.Parents.{last_serve, seal_place, before_seal};
+ghost use Rattle.split_types.specs.Parents.{last_serve};
+ghost use Rattle.split_types.specs.Rounds.{seal_place, round_of};
+ghost use Rattle.split_types.specs.ByPlace.{is_serve, is_seal, is_seal_of, is_clear_add};
 ghost use Rattle.provenance.specs.Targets.{buffer_of};
-ghost use Rattle.provenance.specs.Found.{listed, is_serve, is_seal_of};
+ghost use Rattle.provenance.specs.Found.{listed, sealing_at};
 
 use crate::target::{Target, is_closed, is_dirtied};
 use hook_events::{History, Steps};
-use split_types::{Event, PlaceList, Txn};
-use std::alloc::AllocError;
+use split_types::{Event, PlaceList, ReqKind, Txn};
+use std::alloc::{AllocError, Global};
 use std::sync::ledger::Ledger;
 
 /// Appends the place of the event where the event dirties the target.
@@ -82,7 +84,6 @@ pub(crate) fn seal_place<L: Ledger>(
     requires { count ≤ length h.now.events }
     ensures place { listed result ≡ seal_place (older h.now.events count) t }
     ensures within { IfSome result (λ place. place < count) }
-    ensures before { older h.now.events (unwrap_or result 0) ≡ before_seal (older h.now.events count) t }
 {
     let mut rest = count;
     while rest > 0 {
@@ -94,6 +95,43 @@ pub(crate) fn seal_place<L: Ledger>(
     None
 }
 
+/// The places of the seals of a transaction's round among the first `count` events, the newest first: none
+/// where the transaction's own seal isn't among them.
+pub(crate) fn round_places<L: Ledger>(
+    alloc: Global,
+    h: &History,
+    count: usize,
+    t: Txn,
+    steps: &mut Steps<L>,
+) -> Result<PlaceList, AllocError>
+    requires within { count ≤ length h.now.events }
+    requires short { length h.now.events ≤ 2 ^ 32 }
+    ensures within { IfOk result (λ places. All (λ place. place < count) places) }
+    ensures round { IfOk result (λ places. map (sealing_at h.now.events) places ≡ round_of (older h.now.events count) t) }
+{
+    let mut places = PlaceList::new(alloc);
+    let mut has_own = false;
+    let mut rest = count;
+    while rest > 0 {
+        rest -= 1;
+        let e = *h.at(rest, steps);
+        if is_seal(&e) {
+            places.push(rest as u32)?;
+            has_own |= is_seal_of(&e, t);
+        } else if is_clear_add(&e) {
+            if has_own {
+                return Ok(places);
+            }
+            places = PlaceList::new(alloc);
+        }
+    }
+    if has_own {
+        Ok(places)
+    } else {
+        Ok(PlaceList::new(alloc))
+    }
+}
+
 /// Whether the event is a serve.
 fn is_serve(e: &Event) -> bool
     ensures { result ≡ is_serve e.now }
@@ -101,9 +139,26 @@ fn is_serve(e: &Event) -> bool
     matches!(*e, Event::Serve { .. })
 }
 
+/// Whether the event is a seal.
+fn is_seal(e: &Event) -> bool
+    ensures { result ≡ is_seal e.now }
+{
+    matches!(*e, Event::Seal { .. })
+}
+
+/// Whether the event adds a request that clears a transaction.
+fn is_clear_add(e: &Event) -> bool
+    ensures { result ≡ is_clear_add e.now }
+{
+    match *e {
+        Event::Add { req, .. } => matches!(req.kind, ReqKind::Clear(_)),
+        _ => false,
+    }
+}
+
 /// Whether the event is the seal of the transaction.
 fn is_seal_of(e: &Event, t: Txn) -> bool
-    ensures { result ≡ is_seal_of e.now t }
+    ensures { result ≡ is_seal_of t e.now }
 {
     match *e {
         Event::Seal { t: sealed, .. } => sealed.0 == t.0,

@@ -1,7 +1,7 @@
 use Rattle.std.proofs.Common.{◌≡◌, [], ◌∷◌, ap, sym, ◌∙◌}
 use Rattle.split_types.specs.Sets.{union_of}
 use Rattle.split_types.specs.Blame.{own_blame}
-use Rattle.split_types.proofs.Sets.{union-empty, union-none}
+use Rattle.split_types.proofs.Shared.{union-empty, union-none}
 use Rattle.provenance.proofs.blaming.own.Goals as goal
 
 pub returns-in-None : goal.returns-in-None

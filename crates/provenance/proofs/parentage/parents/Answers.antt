@@ -1,7 +1,7 @@
 use Rattle.std.proofs.Common.{◌≡◌, subst, arith, IfOk}
 use Rattle.split_types.specs.History.{older}
 use Rattle.split_types.specs.Parents.{parents_of}
-use Rattle.split_types.proofs.History.{older-all}
+use Rattle.split_types.proofs.Shared.{older-all}
 use Rattle.provenance.proofs.parentage.parents.Goals as goal
 
 pub returns : goal.returns
