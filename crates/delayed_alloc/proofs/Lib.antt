@@ -1,0 +1,3 @@
+mod BitLaws
+mod HeldLaws
+mod TurnLaws

@@ -1,0 +1,127 @@
+//! Which blocks are taken, free or waiting, and how many free ones are promised.
+ghost use Rattle.std.specs.Prelude.{◌≡◌, ◌+◌, ◌-◌, ◌<◌, ◌≤◌, ◌↔◌, length, map, slice_set, Some, IfOk, IsTrue};
+ghost use Rattle.std.specs.Bool.{OnTrue, OnFalse};
+ghost use Rattle.delayed_alloc.specs.Blocks.{Taken, Waiting, state_at, free_count, new_blocks, IsLeastRun, TakesRun, settled};
+
+use crate::awaited::Awaited;
+use crate::block_set::BlockSet;
+use fixed_places::Groups;
+use split_types::Txn;
+use std::alloc::{AllocError, Global};
+use std::marker::Model;
+
+/// The first block that holds data.
+const FIRST: u32 = 526;
+
+/// The blocks of a disk: each is taken, free, or waits for a transaction; some free ones are promised.
+#[derive(Debug, Drop)]
+pub struct Alloc {
+    free: BlockSet,
+    waiting: Groups<Awaited>,
+    unused: u32,
+    reserved: u32,
+}
+
+impl Model for Alloc {
+    ghost use Rattle.delayed_alloc.specs.Blocks.{Blocks};
+
+    ghost Value = { Blocks };
+
+    ghost use Rattle.delayed_alloc.specs.Held.{states_of, AreHeld};
+
+    ghost view = { λ a. record { states = states_of a.free.words.items a.waiting; reserved = a.reserved } };
+
+    ghost invariant = { λ a. AreHeld a.free.words.items a.waiting a.unused a.reserved };
+}
+
+impl Alloc {
+    /// The blocks of a disk of which those up to the first `used` that hold data are taken, and the others
+    /// free. It takes all memory that it needs.
+    pub fn new(alloc: Global, device: u32, used: u32) -> Result<Alloc, AllocError>
+        requires { 526 + used ≤ device }
+        ensures { IfOk result (λ a. a ≡ new_blocks device (526 + used)) }
+    {
+        let mut free = BlockSet::new(alloc, device as usize)?;
+        for block in FIRST + used..device {
+            free.insert(block as usize);
+        }
+        Ok(Alloc {
+            free,
+            waiting: Groups::new(alloc, device as usize)?,
+            unused: device - FIRST - used,
+            reserved: 0,
+        })
+    }
+
+    /// Promises a free block; `false`, and nothing changes, exactly where all free blocks are promised.
+    pub fn reserve(&mut self) -> bool
+        ensures some { IsTrue result ↔ (self.old.reserved < free_count self.old) }
+        ensures promised { OnTrue result (self.new ≡ record self.old { reserved = self.old.reserved + 1 }) }
+        ensures none { OnFalse result (self.new ≡ self.old) }
+    {
+        if self.reserved == self.unused {
+            return false;
+        }
+        self.reserved += 1;
+        true
+    }
+
+    /// Takes a promise back.
+    pub fn unreserve(&mut self)
+        requires { 0 < self.old.reserved }
+        ensures { self.new ≡ record self.old { reserved = self.old.reserved - 1 } }
+    {
+        self.reserved -= 1;
+    }
+
+    /// How many free blocks aren't promised.
+    pub fn left(&self) -> u32
+        ensures { result + self.now.reserved ≡ free_count self.now }
+    {
+        self.unused - self.reserved
+    }
+
+    /// The run that `take_run` would take: its first block, and its length.
+    pub fn peek_run(&self, n: u32) -> (u32, u32)
+        requires some { 1 ≤ n }
+        requires promised { n ≤ self.now.reserved }
+        ensures { IsLeastRun self.now n result.0 result.1 }
+    {
+        let first = self.free.first().unwrap();
+        let m = self.free.run(first, n as usize);
+        (first as u32, m as u32)
+    }
+
+    /// Takes the longest run of at most `n` free blocks that begins at the least free block, and as many
+    /// promises: its first block, and its length.
+    pub fn take_run(&mut self, n: u32) -> (u32, u32)
+        requires some { 1 ≤ n }
+        requires promised { n ≤ self.old.reserved }
+        ensures run { IsLeastRun self.old n result.0 result.1 }
+        ensures taken { TakesRun self.old self.new result.0 result.1 }
+    {
+        let (first, m) = self.peek_run(n);
+        self.free.remove_run(first as usize, m as usize);
+        self.unused -= m;
+        self.reserved -= m;
+        (first, m)
+    }
+
+    /// A taken block waits for a transaction to be committed.
+    pub fn free_later(&mut self, block: u32, t: Txn)
+        requires { state_at self.old block ≡ Some Taken }
+        ensures { self.new ≡ record self.old { states = slice_set self.old.states block (Waiting t) } }
+    {
+        self.waiting.put(block as usize, Awaited(t));
+    }
+
+    /// The blocks that wait for a transaction are free.
+    pub fn settle(&mut self, t: Txn)
+        ensures { self.new ≡ record self.old { states = map (settled t) self.old.states } }
+    {
+        while let Some(block) = self.waiting.take(&Awaited(t)) {
+            self.free.insert(block);
+            self.unused += 1;
+        }
+    }
+}
