@@ -1,0 +1,12 @@
+pub mod Digits
+pub mod Alike
+pub mod Amounts
+pub mod CallLaws
+pub mod ActorLaws
+pub mod LineLaws
+pub mod HeadLaws
+pub mod StandLaws
+pub mod StopLaws
+pub mod FrontLaws
+pub mod Whole
+pub mod Sound

@@ -1,0 +1,8 @@
+use Rattle.std.proofs.Common.{refl}
+use Rattle.workload_reader.specs.declared.line.Line.TheVariants.{Process}
+use Rattle.workload_reader.proofs.items.process_line.Goals as goal
+
+pub returns : goal.returns
+returns c = λ w is.
+    let found = c.in_ok-value.ensures in
+    (Process found.0, (refl, tt), found.2, c.process_of.ensures w _ _ is found.3)

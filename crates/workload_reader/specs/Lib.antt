@@ -1,0 +1,16 @@
+pub mod Fields
+pub mod Kinds
+pub mod Line
+pub mod Extent
+pub mod Actors
+pub mod Rising
+pub mod FileNames
+pub mod Standing
+pub mod Table
+pub mod Weighed
+pub mod ReadsLine
+pub mod Adding
+pub mod Refusal
+pub mod Taking
+pub mod Front
+pub mod Reading
