@@ -1,42 +1,47 @@
--- What contracts see of a core, and what its state has to do with that.
-use Rattle.std.specs.Prelude.{◌≡◌, List, map}
-use Rattle.std.specs.List.{range_with_len}
+-- What contracts see of a core, and what its plan and its parts have to do with that.
+use Rattle.std.specs.Prelude.{◌<◌, List, vec_len}
+use Rattle.std.specs.Vec.{vec_capacity}
+use Rattle.std.specs.VecDeque.{deque_len, deque_capacity}
 use Rattle.split_types.specs.declared.workload.Workload.{Workload}
 use Rattle.split_types.specs.declared.event.Event.{Event}
-use Rattle.split_types.specs.History.{adds}
-use Rattle.split_types.specs.Blame.{tag}
-use Rattle.split_types.specs.CostAndClock.{head, cost_of, now, billed}
-use Rattle.split_types.specs.Requests.{requests, sends}
-use Rattle.split_types.specs.Pages.{is_dirty}
-use Rattle.split_types.specs.Workloads.{processes, calls_of, all_pages}
 use Rattle.split_types.specs.Accepted.{IsAccepted}
-use Rattle.split_types.specs.Writeback.{service}
 use Rattle.split_types.specs.Legal.{IsLegal}
-use Rattle.split_types.specs.LegalFacts.{dones, last_taken}
-use Rattle.split_core.specs.declared.state.State.{State}
-use Rattle.split_core.specs.Progress.{progress}
-use Rattle.split_core.specs.PageTable.{first_pages}
+use Rattle.split_core.specs.declared.plan.Plan.{Plan}
+use Rattle.split_core.specs.declared.parts.Parts.{Parts}
+use Rattle.split_core.specs.Plans.{PlanStands}
+use Rattle.split_core.specs.Clients.{ClientsStand}
+use Rattle.split_core.specs.Pages.{PagesStand}
+use Rattle.split_core.specs.Book.{BookStands}
+use Rattle.split_core.specs.Flight.{FlightStands}
+use Rattle.split_core.specs.Served.{ServedStands}
+use Rattle.split_core.specs.Time.{TimeStands}
+use Rattle.split_core.specs.Money.{MoneyStands}
+use Rattle.split_core.specs.Counts.{CountsStand}
 
 -- a core is seen as its workload and its history
 pub record Simulation : Type 0 where
   pub workload : Workload
   pub history : List Event
 
--- what each part of the state is in the history h, which is legal
-pub record StandsFor (w : Workload) (s : State) (h : List Event) : Type 0 where
+-- each part stands for the history h
+pub record PartsStand (w : Workload) (p : Parts) (h : List Event) : Type 0 where
+  pub clients : ClientsStand w p.clients h
+  pub pages : PagesStand w p.pages h
+  pub book : BookStands p.book h
+  pub flight : FlightStands w p.flight h
+  pub service : ServedStands p.service h
+  pub time : TimeStands p.time h
+  pub money : MoneyStands w p.money h
+  pub counts : CountsStand w p.counts h
+
+-- there is room for one more request
+pub record HasRoom (p : Parts) : Type 0 where
+  pub book : vec_len p.book.entries < vec_capacity p.book.entries
+  pub queue : deque_len p.flight.queued < deque_capacity p.flight.queued
+
+-- so do all parts, and the history is a legal one of an accepted workload
+pub record StandsFor (w : Workload) (plan : Plan) (p : Parts) (h : List Event) : Type 0 where
   pub accepted : IsAccepted w
   pub legal : IsLegal w h
-  pub calls_are : s.calls.items ≡ map (calls_of w) (processes w)
-  pub clients_are : s.clients.items ≡ map (progress h) (processes w)
-  pub pages_are : s.pages.pages.items ≡ all_pages w
-  pub first_are : s.pages.first.items ≡ first_pages 0 w.files
-  pub dirty_are : s.pages.dirty.items ≡ map (is_dirty h) (all_pages w)
-  pub taken_are : s.pages.taken.items ≡ map (last_taken h) (all_pages w)
-  pub service_is : s.service ≡ service h
-  pub requests_are : s.requests.items ≡ requests h
-  pub tags_are : s.tags.items ≡ map (tag h) (range_with_len 0 (adds h))
-  pub costs_are : s.costs.items ≡ map (cost_of h) (range_with_len 0 (sends h))
-  pub done_is : s.done ≡ dones h
-  pub head_is : s.head ≡ head h
-  pub clock_is : s.clock ≡ now h
-  pub billed_are : s.billed.items ≡ map (billed h) (processes w)
+  pub planned : PlanStands w plan
+  pub parts : PartsStand w p h

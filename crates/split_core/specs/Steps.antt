@@ -1,10 +1,11 @@
 -- What a step of the core does.
-use Rattle.std.specs.Prelude.{◌≡◌, ℕ, ◌<◌, length, true, Some, None}
+use Rattle.std.specs.Prelude.{◌≡◌, ℕ, ◌<◌, List, length, map, drop, true, Some, None}
+use Rattle.split_types.specs.declared.workload.Workload.{Workload}
 use Rattle.split_types.specs.declared.actor.Actor.{Actor}
 use Rattle.split_types.specs.declared.actor.Actor.TheVariants.{Client}
 use Rattle.split_types.specs.declared.event.Event.{Event}
 use Rattle.split_types.specs.History.{◌▹◌}
-use Rattle.split_types.specs.Workloads.{bound}
+use Rattle.split_types.specs.Workloads.{processes, bound}
 use Rattle.split_types.specs.Next.{next}
 use Rattle.split_types.specs.Legal.{turn, is_drained}
 use Rattle.split_core.specs.declared.step.Step.{Step}
@@ -14,6 +15,10 @@ use Rattle.split_core.specs.StandsFor.{Simulation}
 -- process p
 abbrev pub client : ℕ → Actor
 client p = Client (record { 0 = p })
+
+-- the processes behind so many
+abbrev pub clients_from : Workload → ℕ → List Actor
+clients_from w behind = map client (drop behind (processes w))
 
 -- the event was appended, at this place, below the bound
 pub record Appends (old new : Simulation) (e : Event) (i : ℕ) : Type 0 where

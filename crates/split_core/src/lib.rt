@@ -1,25 +1,26 @@
 //! The core of splitio: one state machine that makes the events of a history, one at a step.
 //!
-//! Contracts see a [`Core`] as its workload and its history. A step of an actor makes exactly the event
-//! that comes next for it by the definitions, at the place after the last, and is idle exactly where there
-//! is none; turns drain the history, and are idle exactly where it is drained. What the core knows beside
-//! the events (how far each process has come, which pages are dirty and taken, the requests with their tags
-//! and costs, the clock and the bills) stands in a private state, which its invariant ties to the history.
-//! `facts` shows the tags, costs, shares and bills that the definitions give.
+//! Contracts see a [`Core`] as its workload and its history, which is legal. A step of an actor makes exactly
+//! the event that comes next for it by the definitions, at the place after the last, and is idle exactly where
+//! there is none; turns drain the history, and are idle exactly where it is drained. `facts` shows the tags,
+//! costs, shares and bills that the definitions give.
 //!
-//! The outermost crate stands on this one.
+//! What the core knows beside the events stands in parts: how far each process has come, which pages are dirty
+//! and ready, the requests, which of them are in flight, the run that is served, head and clock, the bills, and
+//! the counts of events. Each part takes note of every event, in `note`, and only there does what is kept meet
+//! the history that it stands for. What the workload alone fixes is a plan beside them.
+//!
+//! Whatever makes the events of a workload stands on this crate.
 #![tactic(auto)]
 
-mod client;
 mod facts;
-mod laws;
 mod machine;
-mod make;
-mod pages;
-mod play;
-mod state;
+mod names;
+mod next;
+mod note;
+mod parts;
+mod plan;
 mod step;
 
-pub use laws::bills_conserve;
 pub use machine::Core;
 pub use step::Step;

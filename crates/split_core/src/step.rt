@@ -1,18 +1,15 @@
-//! The steps of the core, and the draining of its history.
-ghost use Rattle.std.specs.Prelude.{◌≡◌, ℕ, ◌+◌, ◌<◌, ◌≤◌, ◌^◌, [], length, Some, None, ◌≢◌, IfOk, OnOk, OnErr, IfSome, IfNone};
+//! The steps of the core, the turns that a workload's `go` lines ask for, and the draining of its history.
+ghost use Rattle.std.specs.Prelude.{◌≡◌, ◌+◌, ◌*◌, ◌≤◌, length, true, replicate, Some, IfNone, IfOk, OnOk, OnErr};
 ghost use Rattle.split_types.specs.History.{◌▹◌};
-ghost use Rattle.split_types.specs.Blame.{own_blame, blame};
+ghost use Rattle.split_types.specs.Hooks.{maker};
 ghost use Rattle.split_types.specs.Next.{next};
-ghost use Rattle.split_types.specs.Accepted.{IsAccepted};
-ghost use Rattle.split_types.specs.Legal.{IsLegal, first_next, turn_order, drain};
-ghost use Rattle.split_core.specs.Steps.{StepsTo, TurnsTo, client};
+ghost use Rattle.split_types.specs.Legal.{is_drained, first_next, turn_order, go_actors, play, drain};
+ghost use Rattle.split_core.specs.Steps.{clients_from, Appends, StepsTo, TurnsTo};
 
 use crate::machine::Core;
-use cause_set::Causes;
-use hook_events::{History, Steps};
-use provenance::{blame, parents};
-use split_types::{Actor, Event, Pid, Request, Workload};
-use std::alloc::{AllocError, Global};
+use hook_events::Steps;
+use split_types::{Actor, Event, Pid};
+use std::alloc::AllocError;
 use std::sync::ledger::Ledger;
 
 /// What a step did.
@@ -24,203 +21,126 @@ pub enum Step {
     Idle,
 }
 
-/// The processes to blame for an event that comes next and has none of its own: those to blame for its parents.
-fn tag_of<L: Ledger>(
-    alloc: Global,
-    w: &Workload,
-    h: &History,
-    e: &Event,
-    steps: &mut Steps<L>,
-) -> Result<Causes, AllocError>
-    requires short { length h.now.events ≤ 2 ^ 32 }
-    requires own { own_blame e.now ≡ [] }
-    ensures { IfOk result (λ causes. causes ≡ blame (h.now.events ▹ e.now) (length h.now.events)) }
-{
-    let places = parents(alloc, h, e, steps)?;
-    let mut causes = Causes::none();
-    for place in places.as_slice() {
-        causes = causes.union(&blame(alloc, w, h, *place as usize, steps)?);
-    }
-    Ok(causes)
-}
-
 impl Core {
-    /// Makes the next event of a process.
-    fn make_of_process(&mut self, p: Pid, e: Event) -> Result<(), AllocError>
-        requires { next self.old.workload self.old.history (Actor.Client p) ≡ Some e }
-        ensures ok { OnOk result (self.new ≡ record { workload = self.old.workload; history = self.old.history ▹ e }) }
+    /// Makes an event that comes next, and says its place.
+    fn make(&mut self, e: Event) -> Result<u32, AllocError>
+        requires { next self.old.workload self.old.history (maker e) ≡ Some e }
+        ensures ok { IfOk result (λ i. Appends self.old self.new e i) }
         ensures err { OnErr result (self.new ≡ self.old) }
     {
-        match e {
-            Event::Put {
-                by,
-                serial,
-                page,
-                from,
-                to,
-                fill,
-            } => self.make_put(by, serial, page, from, to, fill),
-            _ => self.make_move(p, e),
-        }
-    }
-
-    /// Makes the request that ends the service under way.
-    fn make_request<L: Ledger>(
-        &mut self,
-        alloc: Global,
-        request: Request,
-        steps: &mut Steps<L>,
-    ) -> Result<(), AllocError>
-        requires { next self.old.workload self.old.history Actor.Wb ≡ Some (Event.Add Actor.Wb request) }
-        ensures ok { OnOk result (self.new ≡ record { workload = self.old.workload; history = self.old.history ▹ Event.Add Actor.Wb request }) }
-        ensures err { OnErr result (self.new ≡ self.old) }
-    {
-        let e = Event::Add {
-            by: Actor::Wb,
-            req: request,
-        };
-        let tag = tag_of(alloc, &self.workload, &self.history, &e, steps)?;
-        let Some(run) = self.state.service else {
-            unreachable!();
-        };
-        self.make_add(request, run, tag)
-    }
-
-    /// Makes the next event of writeback.
-    fn make_of_writeback<L: Ledger>(
-        &mut self,
-        alloc: Global,
-        e: Event,
-        steps: &mut Steps<L>,
-    ) -> Result<(), AllocError>
-        requires { next self.old.workload self.old.history Actor.Wb ≡ Some e }
-        ensures ok { OnOk result (self.new ≡ record { workload = self.old.workload; history = self.old.history ▹ e }) }
-        ensures err { OnErr result (self.new ≡ self.old) }
-    {
-        match e {
-            Event::Serve { serial, page, n } => self.make_serve(serial, page, n),
-            Event::Add { by: _, req } => self.make_request(alloc, req, steps),
-            _ => unreachable!(),
-        }
-    }
-
-    /// Makes the next event of an actor.
-    fn make<L: Ledger>(
-        &mut self,
-        alloc: Global,
-        a: Actor,
-        e: Event,
-        steps: &mut Steps<L>,
-    ) -> Result<(), AllocError>
-        requires { next self.old.workload self.old.history a ≡ Some e }
-        ensures ok { OnOk result (self.new ≡ record { workload = self.old.workload; history = self.old.history ▹ e }) }
-        ensures err { OnErr result (self.new ≡ self.old) }
-    {
-        match e {
-            Event::Send { id, cost } => self.make_send(id, cost),
-            Event::Done { k, id, ok } => self.make_done(k, id, ok),
-            _ => match a {
-                Actor::Client(p) => self.make_of_process(p, e),
-                Actor::Wb => self.make_of_writeback(alloc, e, steps),
-                _ => unreachable!(),
-            },
-        }
+        let place = self.history.len() as u32;
+        self.history.room(1)?;
+        self.parts.room()?;
+        let given = self
+            .parts
+            .given(&self.workload, &self.plan, &self.history, &e);
+        self.parts
+            .note(&self.workload, &self.plan, &self.history, &e, &given);
+        let _ = self.history.push(e);
+        Ok(place)
     }
 
     /// One step of an actor: its next event, if it has one. After `Idle`, and where memory ran out, nothing
-    /// has changed.
-    pub fn step<L: Ledger>(
-        &mut self,
-        alloc: Global,
-        a: Actor,
-        steps: &mut Steps<L>,
-    ) -> Result<Step, AllocError>
+    /// has changed. It reads at most 64 events.
+    pub fn step<L: Ledger>(&mut self, a: Actor, steps: &mut Steps<L>) -> Result<Step, AllocError>
         ensures ok { IfOk result (λ step. StepsTo a self.old self.new step) }
         ensures err { OnErr result (self.new ≡ self.old) }
+        ensures cost { steps.new ≤ steps.old + 64 }
     {
-        let Some(e) = self.next(a) else {
-            return Ok(Step::Idle);
-        };
-        let place = self.history.len() as u32;
-        self.make(alloc, a, e, steps)?;
-        Ok(Step::Made(place))
+        match self.next(a) {
+            None => Ok(Step::Idle),
+            Some(e) => Ok(Step::Made(self.make(e)?)),
+        }
     }
 
-    /// The first process that has a next event.
-    fn first_client(&self) -> Option<Actor>
-        ensures none { IfNone result ((q : ℕ) → 1 ≤ q → q ≤ length self.now.workload.procs → next self.now.workload self.now.history (client q) ≡ None) }
-        ensures some { IfSome result (λ a. (p : ℕ) × (1 ≤ p) × (p ≤ length self.now.workload.procs) × (a ≡ client p)
-            × (next self.now.workload self.now.history a ≢ None)
-            × ((q : ℕ) → 1 ≤ q → q < p → next self.now.workload self.now.history (client q) ≡ None)) }
+    /// The next event of the first process, behind so many, that has one.
+    fn first_of_clients(&self, behind: u32) -> Option<Event>
+        requires { behind ≤ length self.now.workload.procs }
+        ensures { result ≡ first_next self.now.workload self.now.history (clients_from self.now.workload behind) }
     {
         let n = self.workload.procs.len() as u32;
-        for i in 0..n {
-            let actor = Actor::Client(Pid(i + 1));
-            if self.next(actor).is_some() {
-                return Some(actor);
+        for i in behind..n {
+            if let Some(e) = self.next_of_client(Pid(i + 1)) {
+                return Some(e);
             }
         }
         None
     }
 
-    /// The first actor, in the order of turns, that has a next event.
-    fn first_actor(&self) -> Option<Actor>
-        ensures none { IfNone result (first_next self.now.workload self.now.history (turn_order self.now.workload) ≡ None) }
-        ensures some { IfSome result (λ a. (next self.now.workload self.now.history a ≢ None)
-            × (first_next self.now.workload self.now.history (turn_order self.now.workload) ≡ next self.now.workload self.now.history a)) }
+    /// The next event of the first actor, in the order of turns, that has one.
+    fn first_next(&self) -> Option<Event>
+        ensures first { result ≡ first_next self.now.workload self.now.history (turn_order self.now.workload) }
+        ensures none { IfNone result (is_drained self.now.workload self.now.history ≡ true) }
     {
-        if let Some(actor) = self.first_client() {
-            return Some(actor);
+        let finished = self.parts.clients.finished;
+        if let Some(e) = self.first_of_clients(finished) {
+            return Some(e);
         }
-        if self.next(Actor::Wb).is_some() {
-            return Some(Actor::Wb);
+        if let Some(e) = self.next(Actor::Wb) {
+            return Some(e);
         }
-        if self.next(Actor::Dq).is_some() {
-            return Some(Actor::Dq);
+        if let Some(e) = self.next(Actor::Dq) {
+            return Some(e);
         }
-        if self.next(Actor::Dn(0)).is_some() {
-            return Some(Actor::Dn(0));
-        }
-        None
-    }
-
-    /// What is known of the workload and the history.
-    fn known(&self)
-        ensures accepted { IsAccepted self.now.workload }
-        ensures legal { IsLegal self.now.workload self.now.history }
-    {
-        let _state = &self.state;
+        self.next(Actor::Dn(0))
     }
 
     /// The step that drains the history by one event. After `Idle`, which comes where the history is
-    /// drained, and where memory ran out, nothing has changed.
-    pub fn finish_turn<L: Ledger>(
-        &mut self,
-        alloc: Global,
-        steps: &mut Steps<L>,
-    ) -> Result<Step, AllocError>
+    /// drained, and where memory ran out, nothing has changed. It reads at most 64 events for each process
+    /// and each other actor.
+    pub fn finish_turn<L: Ledger>(&mut self, steps: &mut Steps<L>) -> Result<Step, AllocError>
         ensures ok { IfOk result (λ step. TurnsTo self.old self.new step) }
         ensures err { OnErr result (self.new ≡ self.old) }
+        ensures cost { steps.new ≤ steps.old + 64 * (length self.old.workload.procs + 5) }
     {
-        self.known();
-        match self.first_actor() {
-            None => Ok(Step::Idle),
-            Some(actor) => self.step(alloc, actor, steps),
+        if self.drained() {
+            return Ok(Step::Idle);
         }
+        match self.first_next() {
+            None => Ok(Step::Idle),
+            Some(e) => Ok(Step::Made(self.make(e)?)),
+        }
+    }
+
+    /// Lets an actor act so often. Where it has no next event it has none in the turns that are left.
+    fn act<L: Ledger>(
+        &mut self,
+        actor: Actor,
+        times: u32,
+        steps: &mut Steps<L>,
+    ) -> Result<(), AllocError>
+        ensures ok { OnOk result (self.new ≡ record { workload = self.old.workload; history = play self.old.workload self.old.history (replicate times actor) }) }
+        ensures workload { self.new.workload ≡ self.old.workload }
+    {
+        for _turn in 0..times {
+            if let Step::Idle = self.step(actor, steps)? {
+                return Ok(());
+            }
+        }
+        Ok(())
+    }
+
+    /// Lets the actors of the workload's `go` lines act in turn, each as often as its line says. Where memory
+    /// runs out some turns have been taken.
+    pub fn play<L: Ledger>(&mut self, steps: &mut Steps<L>) -> Result<(), AllocError>
+        ensures ok { OnOk result (self.new ≡ record { workload = self.old.workload; history = play self.old.workload self.old.history (go_actors self.old.workload) }) }
+        ensures workload { self.new.workload ≡ self.old.workload }
+    {
+        for i in 0..self.workload.go.len() {
+            let go = *self.workload.go.at(i);
+            self.act(go.actor, go.times, steps)?;
+        }
+        Ok(())
     }
 
     /// Drains the history: turn after turn, as long as it isn't drained. Where memory runs out some turns
     /// have been taken.
-    pub fn drain<L: Ledger>(
-        &mut self,
-        alloc: Global,
-        steps: &mut Steps<L>,
-    ) -> Result<(), AllocError>
+    pub fn drain<L: Ledger>(&mut self, steps: &mut Steps<L>) -> Result<(), AllocError>
         ensures ok { OnOk result (self.new ≡ record { workload = self.old.workload; history = drain self.old.workload self.old.history }) }
         ensures workload { self.new.workload ≡ self.old.workload }
     {
         'turns: loop {
-            match self.finish_turn(alloc, steps)? {
+            match self.finish_turn(steps)? {
                 Step::Made(_place) => {}
                 Step::Idle => return Ok(()),
             }

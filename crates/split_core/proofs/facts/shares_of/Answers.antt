@@ -2,7 +2,7 @@
 use Rattle.std.proofs.Common.{ℕ, ap, ◌∙◌, map}
 use Rattle.split_types.specs.declared.ids.Pid.{Pid}
 use Rattle.split_types.specs.Share.{share_of}
-use Rattle.split_core.proofs.FactsLaws.{shares_are}
+use Rattle.split_core.proofs.FactsReads.{shares_are}
 use Rattle.split_core.proofs.facts.shares_of.Goals as goal
 
 pub returns : goal.returns

@@ -1,5 +1,5 @@
 use Rattle.std.proofs.Common.{replicate}
-use Rattle.split_core.proofs.PlayLaws.{Plays}
+use Rattle.split_core.proofs.TurnNotes.{Plays}
 use Rattle.split_core.proofs.machine.Core.act.Given as goal
 
 abbrev pub invariant-loop-turn : goal.invariant-loop-turn

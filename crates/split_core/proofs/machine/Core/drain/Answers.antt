@@ -1,7 +1,7 @@
 -- Each turn leaves less to drain.
 use Rattle.std.proofs.Common.{subst}
 use Rattle.split_core.specs.Steps.{TurnsTo}
-use Rattle.split_core.proofs.TurnLaws.{drains_start, drains_on}
+use Rattle.split_core.proofs.TurnNotes.{drains_start, drains_on}
 use Rattle.split_core.proofs.machine.Core.drain.Goals as goal
 
 pub turns-init : goal.turns-init

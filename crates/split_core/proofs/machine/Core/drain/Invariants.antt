@@ -1,6 +1,6 @@
 use Rattle.std.proofs.Common.{◌-◌, length}
 use Rattle.split_types.specs.Workloads.{bound}
-use Rattle.split_core.proofs.TurnLaws.{Drains}
+use Rattle.split_core.proofs.TurnNotes.{Drains}
 use Rattle.split_core.proofs.machine.Core.drain.Given as goal
 
 abbrev pub invariant-turns : goal.invariant-turns

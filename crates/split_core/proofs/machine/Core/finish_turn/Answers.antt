@@ -1,11 +1,8 @@
--- A step of the first actor that has a next event is a turn.
-use Rattle.std.proofs.lemmas.Result.{IfOk-weaker}
-use Rattle.split_core.proofs.TurnLaws.{turns_by, turns_none}
+-- The event of a turn is the next of its maker.
+use Rattle.std.proofs.Common.{◌∙◌, sym}
+use Rattle.split_types.specs.Legal.{turn_order}
+use Rattle.split_core.proofs.TurnNotes.{first_comes}
 use Rattle.split_core.proofs.machine.Core.finish_turn.Goals as goal
 
-pub returns-in-None-clause-ok : goal.returns-in-None-clause-ok
-returns-in-None-clause-ok g c = turns_none c.args.self.now c.known.ensures.accepted c.known.ensures.legal c.in-None.ensures.none
-
-pub returns-in-Some-clause-ok : goal.returns-in-Some-clause-ok
-returns-in-Some-clause-ok g c =
-    IfOk-weaker c.step.result _ _ (λ step to. turns_by c.in-Some.actor c.args.self.now c.step.new.self step c.known.ensures.accepted c.known.ensures.legal c.in-Some.ensures.some.0 c.in-Some.ensures.some.1 to) c.step.ensures.ok
+pub make-requires : goal.make-requires
+make-requires g c = first_comes c.args.self.now.workload c.args.self.now.history (turn_order c.args.self.now.workload) c.in-Some.e (sym c.first_next.ensures.first ∙ c.in-Some.is)

@@ -1,48 +1,44 @@
--- The run that is served is read from the table of pages.
-use Rattle.std.proofs.Common.{ℕ, arith, sym, ◌∙◌, ap, Some}
+-- The first page that is ready, and the run from there on.
+use Rattle.std.proofs.Common.{arith, sym, ◌∙◌, ap, Some, None}
 use Rattle.split_types.specs.declared.event.Event.TheVariants.{Serve}
-use Rattle.split_types.specs.Writeback.{next_serve}
-use Rattle.split_types.proofs.PageLaws.{page_is}
+use Rattle.split_types.specs.Writeback.{next_serve, serve_from}
 use Rattle.split_core.specs.StandsFor.{Simulation}
-use Rattle.split_core.proofs.ReadyReads.{serve_none, serve_some, run_read, served_page, pages_in_is, page_read}
+use Rattle.split_core.specs.Plans.{buf_of}
+use Rattle.split_core.proofs.NextReads.{none_ready, first_at, page_parts, pages_are, rest_within, run_read}
 use Rattle.split_core.proofs.machine.Core.next_serve.Goals as goal
 
 pub returns-in_err-at : goal.returns-in_err-at
 returns-in_err-at c =
     let i = c.self.inside in
-    c.from_residual.ensures ∙ sym (serve_none i.workload i.state i.history.events c.self.invariant c.in_err-at.ensures.none)
+    let none = none_ready i.workload i.parts.pages i.history.events c.self.invariant.parts.pages c.in_err-at.ensures.none in
+    c.from_residual.ensures ∙ ap (λ o. elim o [ None ↦ None | Some b ↦ serve_from i.workload i.history.events b ]) (sym none)
     ∙ ap (λ (v : Simulation). next_serve v.workload v.history) c.self.view_is
 
-pub returns-in_default : goal.returns-in_default
-returns-in_default c =
-    let i = c.self.inside in
-    let page = page_is i.workload c.in_ok-at.at c.index.result.now (page_read i.workload i.state i.history.events c.in_ok-at.at c.index.result.now c.self.invariant (c.in_ok-at.ensures.some.0) c.index.ensures) in
-    absurd (c.in_default.not-Page page.serial page.page page.is)
-
 pub at-requires : goal.at-requires
-at-requires c =
-    let i = c.self.inside in
-    (served_page i.workload i.state i.history.events c.in_ok-at.at c.in-Page.serial c.in-Page.page 0 c.index.result.now c.self.invariant (c.in_ok-at.ensures.some.0) c.index.ensures c.in-Page.is).file
+at-requires c = (page_parts c.self.inside.workload c.in_ok-at.at c.page-first.result.serial c.page-first.result.page c.page-first.ensures).0
 
 pub overflow_sub-left : goal.overflow_sub-left
 overflow_sub-left c =
-    let i = c.self.inside in
-    let page = served_page i.workload i.state i.history.events c.in_ok-at.at c.in-Page.serial c.in-Page.page 0 c.index.result.now c.self.invariant (c.in_ok-at.ensures.some.0) c.index.ensures c.in-Page.is in
-    omega (arith, page.page, pages_in_is i.workload c.in-Page.serial.0 c.at.result.now c.at.ensures)
+    let w = c.self.inside.workload in
+    let page = page_parts w c.in_ok-at.at c.page-first.result.serial c.page-first.result.page c.page-first.ensures in
+    omega (arith, page, pages_are w c.page-first.result.serial.0 c.at.result.now c.at.ensures)
 
-pub ready_from-n-requires-clause-within : goal.ready_from-n-requires-clause-within
-ready_from-n-requires-clause-within c =
+pub ready_from-requires-clause-within : goal.ready_from-requires-clause-within
+ready_from-requires-clause-within c =
     let i = c.self.inside in
-    let page = served_page i.workload i.state i.history.events c.in_ok-at.at c.in-Page.serial c.in-Page.page 0 c.index.result.now c.self.invariant (c.in_ok-at.ensures.some.0) c.index.ensures c.in-Page.is in
-    omega (arith, page.fits, pages_in_is i.workload c.in-Page.serial.0 c.at.result.now c.at.ensures, c.min.ensures)
+    let first = c.page-first.result in
+    let rest = rest_within i.workload i.parts.pages i.history.events c.in_ok-at.at first.serial first.page c.self.invariant.parts.pages c.page-first.ensures in
+    omega (arith, rest, pages_are i.workload first.serial.0 c.at.result.now c.at.ensures, c.min.ensures)
 
 pub returns : goal.returns
 returns c =
     let i = c.self.inside in
-    let page = served_page i.workload i.state i.history.events c.in_ok-at.at c.in-Page.serial c.in-Page.page 0 c.index.result.now c.self.invariant (c.in_ok-at.ensures.some.0) c.index.ensures c.in-Page.is in
-    let pages = pages_in_is i.workload c.in-Page.serial.0 c.at.result.now c.at.ensures in
-    let length_is = run_read i.workload i.state i.history.events c.in_ok-at.at c.ready_from-n.result c.in-Page.serial c.in-Page.page c.self.invariant page.at
-    (omega (arith, pages, c.min.ensures, c.ready_from-n.ensures.most)) c.ready_from-n.ensures.ready (λ lt. c.ready_from-n.ensures.end (omega (arith, pages, c.min.ensures))) in
-    ap (λ (n : ℕ). Some (Serve c.in-Page.serial c.in-Page.page n)) (sym length_is)
-    ∙ sym (serve_some i.workload i.state i.history.events c.in_ok-at.at _ c.self.invariant page.at (c.in_ok-at.ensures.some.1) c.in_ok-at.ensures.first)
+    let stands = c.self.invariant.parts.pages in
+    let first = c.page-first.result in
+    let pages = pages_are i.workload first.serial.0 c.at.result.now c.at.ensures in
+    let found = (first_at i.workload i.parts.pages i.history.events c.in_ok-at.at stands c.in_ok-at.ensures.least).first (buf_of first) c.page-first.ensures in
+    let long = run_read i.workload i.parts.pages i.history.events c.in_ok-at.at c.ready_from.result first.serial first.page stands c.page-first.ensures
+    (omega (arith, pages, c.min.ensures, c.ready_from.ensures.most)) c.ready_from.ensures.ready (λ lt. c.ready_from.ensures.end (omega (arith, lt, pages, c.min.ensures))) in
+    ap (λ n. Some (Serve first.serial first.page n)) (sym long)
+    ∙ ap (λ o. elim o [ None ↦ None | Some b ↦ serve_from i.workload i.history.events b ]) (sym found)
     ∙ ap (λ (v : Simulation). next_serve v.workload v.history) c.self.view_is

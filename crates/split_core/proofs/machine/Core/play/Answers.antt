@@ -4,7 +4,7 @@ use Rattle.std.specs.List.{flat_map}
 use Rattle.split_types.specs.declared.workload.Go.{Go}
 use Rattle.split_types.specs.declared.workload.Workload.{Workload}
 use Rattle.split_core.specs.StandsFor.{Simulation}
-use Rattle.split_core.proofs.PlayLaws.{Plays, plays_then, lines_more}
+use Rattle.split_core.proofs.TurnNotes.{Plays, plays_then, lines_more}
 use Rattle.split_core.proofs.machine.Core.play.Goals as goal
 
 pub loop-i-preserved : goal.loop-i-preserved

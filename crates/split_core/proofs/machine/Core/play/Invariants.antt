@@ -1,6 +1,6 @@
 use Rattle.std.proofs.Common.{take, replicate}
 use Rattle.std.specs.List.{flat_map}
-use Rattle.split_core.proofs.PlayLaws.{Plays}
+use Rattle.split_core.proofs.TurnNotes.{Plays}
 use Rattle.split_core.proofs.machine.Core.play.Given as goal
 
 abbrev pub invariant-loop-i : goal.invariant-loop-i

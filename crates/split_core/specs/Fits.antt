@@ -1,0 +1,111 @@
+-- What is known of an event that comes next in a legal history, by its kind: its numbers are those of the workload, and
+-- what it adds up fits.
+use Rattle.std.specs.Prelude.{◌≡◌, ℕ, ◌+◌, ◌^◌, ◌<◌, ◌≤◌, List, [], ◌∷◌, ◌++◌, length, drop, remove, slice_get, Some, Bool, true, not, ◌&&◌, IsTrue, nat_lt}
+use Rattle.std.specs.List.{list_any}
+use Rattle.std.specs.Option.{option_map}
+use Rattle.split_types.specs.declared.ids.Pid.{Pid}
+use Rattle.split_types.specs.declared.ids.Serial.{Serial}
+use Rattle.split_types.specs.declared.ids.ReqId.{ReqId}
+use Rattle.split_types.specs.declared.buf.Buf.{Buf}
+use Rattle.split_types.specs.declared.buf.Buf.TheVariants.{Page}
+use Rattle.split_types.specs.declared.actor.Actor.{Actor}
+use Rattle.split_types.specs.declared.actor.Actor.TheVariants.{Client, Wb}
+use Rattle.split_types.specs.declared.request.Request.{Request}
+use Rattle.split_types.specs.declared.facts.ReqState.TheVariants.{Queued}
+use Rattle.split_types.specs.declared.workload.Workload.{Workload}
+use Rattle.split_types.specs.declared.event.Event.{Event}
+use Rattle.split_types.specs.declared.event.Event.TheVariants.{Enter, Admit, Put, Ret, Serve, Add, Send, Done}
+use Rattle.split_types.specs.History.{◌▹◌, adds}
+use Rattle.split_types.specs.Hooks.{maker, covers}
+use Rattle.split_types.specs.Requests.{requests, queued, in_flight, unfinished, state_of}
+use Rattle.split_types.specs.CostAndClock.{head, cost_of, now}
+use Rattle.split_types.specs.Blame.{causes, tag}
+use Rattle.split_types.specs.Sets.{has}
+use Rattle.split_types.specs.Share.{share_of}
+use Rattle.split_types.specs.Bills.{bill, billed}
+use Rattle.split_types.specs.Calls.{returned, moved}
+use Rattle.split_types.specs.Files.{is_live, live_named}
+use Rattle.split_types.specs.Pages.{is_dirty}
+use Rattle.split_types.specs.Workloads.{calls_of, file_named, pages_in}
+use Rattle.split_types.specs.Proving.Runs.{WritesRun}
+
+-- a process that acts is one of the workload's, and has a call left
+pub record ClientFits (w : Workload) (h : List Event) (p : Pid) : Type 0 where
+  pub first : 1 ≤ p.0
+  pub last : p.0 ≤ length w.procs
+  pub left : returned h p.0 < length (calls_of w p.0)
+  pub few : length (calls_of w p.0) < 2 ^ 31
+
+-- the files that are there are the preset ones
+abbrev pub NamesArePreset : Workload → List Event → Type 0
+NamesArePreset w h = (name : List ℕ) → live_named w h name ≡ option_map (λ s. record { 0 = s }) (file_named w.files name)
+
+-- some bytes of a page of a preset file, which is there
+pub record PutFits (w : Workload) (h : List Event) (by : Pid) (s : Serial) (g from to : ℕ) : Type 0 where
+  pub file : s.0 < length w.files
+  pub page : g < pages_in w s.0
+  pub live : IsTrue (is_live w h s.0)
+  pub some : from < to
+  pub most : to ≤ 4096
+  pub short : moved h by.0 < 2 ^ 32
+
+-- a request for a run of pages, of which nothing is known yet
+pub record AddFits (w : Workload) (h : List Event) (by : Actor) (r : Request) : Type 0 where
+  pub by_is : by ≡ Wb
+  pub number : r.id.0 ≡ adds h
+  pub counted : adds h ≡ length (requests h)
+  pub run : WritesRun w r
+  pub live : (s : ℕ) → s < length w.files → IsTrue (is_live w h s)
+  pub unsent : cost_of h (adds h) ≡ 0
+  pub undone : state_of h (adds h) ≡ Queued
+
+-- the first of the queued requests
+pub record SendFits (w : Workload) (h : List Event) (id : ReqId) (cost : ℕ) : Type 0 where
+  pub added : id.0 < adds h
+  pub request : Request
+  pub at : slice_get (requests h) id.0 ≡ Some request
+  pub cost_is : cost ≡ cost_of (h ▹ Send id cost) id.0
+  pub free : length (in_flight h) < w.depth
+  pub first : slice_get (queued h) 0 ≡ Some request
+  pub rest : drop 1 (queued h) ≡ queued (h ▹ Send id cost)
+  pub flies : in_flight (h ▹ Send id cost) ≡ in_flight h ++ request ∷ []
+  pub end_is : request.first + request.n ≡ head (h ▹ Send id cost)
+  pub end_most : request.first + request.n ≤ 32768
+
+-- the buffers that are still to be written once a request is done are those that it doesn't write
+abbrev pub Frees : List Event → Event → Request → Type 0
+Frees h e r = (b : Buf) → list_any (λ q. covers q b) (unfinished (h ▹ e)) ≡ (not (covers r b) && list_any (λ q. covers q b) (unfinished h))
+
+-- one of the requests in flight, for a run of pages, which is done well
+pub record DoneFits (w : Workload) (h : List Event) (k : ℕ) (id : ReqId) (ok : Bool) : Type 0 where
+  pub added : id.0 < adds h
+  pub request : Request
+  pub at : slice_get (requests h) id.0 ≡ Some request
+  pub ok_is : ok ≡ true
+  pub run : WritesRun w request
+  pub within : k < length (in_flight h)
+  pub rest : remove (in_flight h) k ≡ in_flight (h ▹ Done k id ok)
+  pub frees : Frees h (Done k id ok) request
+  pub causes_are : (s : Serial) (g : ℕ) → is_dirty w h (Page s g) ≡ nat_lt 0 (length (causes h (Page s g ∷ [])))
+  pub clock_fits : now h + cost_of h id.0 < 2 ^ 63
+  pub bills_fit : (p : ℕ) → billed w h p + bill w h id.0 p < 2 ^ 63
+  pub payers : (p : ℕ) → IsTrue (has (tag h id.0) p) → (1 ≤ p) × (p ≤ length w.procs)
+  pub bill_is : (p : ℕ) → bill w h id.0 p ≡ share_of (cost_of h id.0) (tag h id.0) p
+
+-- what is known of an event by its kind; no other kind comes next
+abbrev pub FitsKind : Workload → List Event → Event → Type 0
+FitsKind w h (Enter p k) = Unit {0}
+FitsKind w h (Admit p) = NamesArePreset w h
+FitsKind w h (Put by s g from to fill) = PutFits w h by s g from to
+FitsKind w h (Ret p r) = Unit {0}
+FitsKind w h (Serve s g n) = Unit {0}
+FitsKind w h (Add by r) = AddFits w h by r
+FitsKind w h (Send id cost) = SendFits w h id cost
+FitsKind w h (Done k id ok) = DoneFits w h k id ok
+FitsKind w h _ = ⊥
+
+pub record Fits (w : Workload) (h : List Event) (e : Event) : Type 0 where
+  pub by : (p : Pid) → maker e ≡ Client p → ClientFits w h p
+  pub short : length h < 2 ^ 31
+  pub procs : length w.procs ≤ 32
+  pub kind : FitsKind w h e

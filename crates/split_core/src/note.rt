@@ -1,0 +1,10 @@
+//! What the core knows of its history, part by part. Each part takes note of every event.
+
+pub(crate) mod book;
+pub(crate) mod clients;
+pub(crate) mod counts;
+pub(crate) mod flight;
+pub(crate) mod money;
+pub(crate) mod pages;
+pub(crate) mod service;
+pub(crate) mod time;
