@@ -1,34 +1,28 @@
 -- What is answered to an input, and what of it is written.
-use Rattle.std.specs.Prelude.{◌≡◌, ℕ, ◌<◌, ◌⊎◌, List, [], ◌∷◌, length, codes, Option}
+use Rattle.std.specs.Prelude.{◌≡◌, ℕ, ◌⊎◌, List, length, Option}
 use Rattle.std.specs.Io.KnownBytes.{Consumes, Appends, IsAtEnd}
 use Rattle.outside.specs.Whole.{AppendsFront}
 use Rattle.split_types.specs.declared.workload.Workload.{Workload}
 use Rattle.split_types.specs.declared.event.Event.{Event}
-use Rattle.split_types.specs.Lines.{line}
-use Rattle.split_types.specs.WorkloadText.{Spells}
-use Rattle.split_top.specs.declared.top.status.Status.{Status}
-use Rattle.split_top.specs.declared.top.status.Status.TheVariants as status
+use Rattle.workload_reader.specs.declared.fault.LineFault.{LineFault}
+use Rattle.workload_reader.specs.Refusal.{Refuses}
+use Rattle.split_top.specs.declared.call.Status.{Status}
+use Rattle.split_top.specs.declared.call.Status.TheVariants as status
+use Rattle.split_top.specs.Refusals.{refusal_text}
 use Rattle.split_top.specs.Replay.{IsReplay}
 
--- the one line that refuses an input
-abbrev pub refusal_text : List ℕ
-refusal_text = line (codes "refused line 0: notbuilt" ∷ [])
-
--- the input is the text of no accepted workload
-abbrev pub SpellsNothing : List ℕ → Type 0
-SpellsNothing input = (w : Workload) → Spells input w → ⊥
-
--- the answer to an input: the text of the run that it asks for, or the line that refuses it
+-- the answer to an input: the text of the run that it asks for, or the line that says which of its lines is refused
+-- first, and why
 abbrev pub AnswersTo : List ℕ → List ℕ → Status → Type 0
 AnswersTo input text status.Ok = (w : Workload) × (h : List Event) × IsReplay input w h text
-AnswersTo input text status.Refused = SpellsNothing input × (text ≡ refusal_text)
+AnswersTo input text status.Refused = (f : LineFault) × Refuses input f × (text ≡ refusal_text f)
 AnswersTo input text _ = ⊥
 
--- the answer to what was read of a source: all that it had left, or more than a text may have
+-- the answer to what was read of a source: all that it had left, or one byte more than a text may have
 pub record Answers (left left_now : Option (List ℕ)) (text : List ℕ) (s : Status) : Type 0 where
   pub input : List ℕ
   pub read : Consumes left left_now input
-  pub enough : IsAtEnd left_now ⊎ (16777216 < length input)
+  pub enough : IsAtEnd left_now ⊎ (length input ≡ 16777217)
   pub answer : AnswersTo input text s
 
 -- an answer was written as a whole, with this status

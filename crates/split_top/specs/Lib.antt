@@ -1,7 +1,5 @@
-pub mod Words
-pub mod LineOf
-pub mod Reading
-pub mod AcceptedParts
 pub mod Command
+pub mod Refusals
 pub mod Replay
 pub mod Answers
+pub mod Outcome

@@ -4,11 +4,11 @@ use Rattle.split_types.specs.declared.workload.Workload.{Workload}
 use Rattle.split_types.specs.declared.event.Event.{Event}
 use Rattle.split_types.specs.WorkloadText.{Spells}
 use Rattle.split_types.specs.Legal.{drain, play, go_actors}
-use Rattle.split_types.specs.Progress.{IsWhole}
+use Rattle.split_types.specs.LegalHistories.{Conserves}
+use Rattle.split_types.specs.Draining.{IsWhole}
 use Rattle.split_types.specs.FactsOf.{facts_of}
 use Rattle.split_types.specs.TraceText.{trace_text}
 use Rattle.split_types.specs.ReportText.{report_text}
-use Rattle.split_core.specs.Conserves.{Conserves}
 
 -- the trace of a history, and the report behind it
 abbrev pub text_of : Workload → List Event → List ℕ
@@ -24,6 +24,7 @@ pub record IsReplay (input : List ℕ) (w : Workload) (h : List Event) (text : L
   pub run : h ≡ run_of w
   -- each event is the next one of its actor, all calls returned, all that was dirtied is written out
   pub whole : IsWhole w h
-  -- each request has processes that pay for it, their shares add up to its cost, and the bills to the clock
+  -- each request has processes that pay for it and is done at most once, what they bear adds up to its cost, and all bills to
+  -- the clock
   pub conserves : Conserves w h
   pub text_is : text ≡ text_of w h

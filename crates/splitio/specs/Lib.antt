@@ -1,1 +1,1 @@
-pub mod Exit
+pub mod Ends

@@ -1,8 +1,0 @@
-use Rattle.std.proofs.Common.{take}
-use Rattle.split_types.specs.Adds.{Adds}
-use Rattle.split_types.specs.Lines.{lines_of}
-use Rattle.split_top.proofs.printing.lines.put_lines.Given as goal
-
--- the lines of the items so far were added
-abbrev pub invariant-loop-item : goal.invariant-loop-item
-invariant-loop-item g l = Adds l.fn.out.items l.out.items (lines_of g.X.OnLine.words (take l.item-index l.items))

@@ -1,4 +1,0 @@
-use Rattle.split_top.proofs.top.answering.answer.Given as goal
-
-abbrev pub ghosts-replay : goal.ghosts-replay
-ghosts-replay a = record { name = a.blank.name; parts = a.blank.parts }

@@ -1,0 +1,74 @@
+//! The top call.
+//!
+//! The words choose what to do with the input. The whole answer is made before any of it is written.
+ghost use Rattle.std.specs.Prelude.{◌≡◌, ◌≢◌, map};
+ghost use Rattle.std.specs.Io.KnownBytes.{IsAtEnd};
+ghost use Rattle.outside.specs.Faults.{Rose};
+ghost use Rattle.split_top.specs.Answers.{Wrote, WroteFront};
+ghost use Rattle.split_top.specs.Outcome.{Outcome};
+
+use crate::answer::{Stop, reply};
+use crate::command::{Command, command_of};
+use outside::{Sink, Source, write_all};
+use std::alloc::Global;
+
+/// How the program ends.
+#[derive(Clone, Copy, Debug, PartialEq, Eq)]
+pub enum Status {
+    /// The whole input was read, and its answer was written.
+    Ok,
+    /// The input is the text of no accepted workload; one line was written that says so.
+    Refused,
+    /// The words ask for nothing that can be done; nothing was read or written.
+    BadWords,
+    /// The source failed; nothing was written.
+    ReadFault,
+    /// The sink failed; it took a front of the answer.
+    WriteFault,
+    /// There was no memory; nothing was written.
+    OutOfMemory,
+    /// A trace that was looked at isn't right. No words ask for such a look yet.
+    AuditNo,
+}
+
+/// Answers what the source has left, and writes the answer to the sink.
+fn run<S: Source, K: Sink>(alloc: Global, source: &mut S, sink: &mut K) -> Status
+    ensures ok { result ≡ Status.Ok → Wrote (S.left source.old) (S.left source.new) (K.held sink.old) (K.held sink.new) Status.Ok }
+    ensures all_read { result ≡ Status.Ok → IsAtEnd (S.left source.new) }
+    ensures refused { result ≡ Status.Refused → Wrote (S.left source.old) (S.left source.new) (K.held sink.old) (K.held sink.new) Status.Refused }
+    ensures bad_words { result ≢ Status.BadWords }
+    ensures read_fault { result ≡ Status.ReadFault → Rose (S.faults source.old) (S.faults source.new) × (sink.new ≡ sink.old) }
+    ensures write_fault { result ≡ Status.WriteFault → Rose (K.faults sink.old) (K.faults sink.new)
+        × WroteFront (S.left source.old) (S.left source.new) (K.held sink.old) (K.held sink.new) }
+    ensures out_of_memory { result ≡ Status.OutOfMemory → sink.new ≡ sink.old }
+    ensures audit_no { result ≢ Status.AuditNo }
+    ensures same_room { K.room sink.new ≡ K.room sink.old }
+{
+    match reply(alloc, source) {
+        Err(Stop::Read) => Status::ReadFault,
+        Err(Stop::Memory) => Status::OutOfMemory,
+        Ok(reply) => match write_all(sink, &reply.text) {
+            Ok(()) => reply.status,
+            Err(_) => Status::WriteFault,
+        },
+    }
+}
+
+/// Does what the words ask for: with the word `replay`, reads the source to its end as the text of a
+/// workload, and writes the trace and the report of its run to the sink; or the one line that refuses it.
+///
+/// It writes nothing before the whole answer is made, reads at most 16,777,217 bytes, and always returns.
+pub fn plain<S: Source, K: Sink>(
+    alloc: Global,
+    words: &[&str],
+    source: &mut S,
+    sink: &mut K,
+) -> Status
+    ensures { Outcome (record { left = S.left; read_faults = S.faults; held = K.held; write_faults = K.faults; room = K.room })
+        (map (λ word. word.now) words.now) source.old source.new sink.old sink.new result }
+{
+    match command_of(words) {
+        None => Status::BadWords,
+        Some(Command::Replay) => run(alloc, source, sink),
+    }
+}

@@ -1,5 +1,0 @@
-use Rattle.std.proofs.Common.{◌≡◌, map, take}
-use Rattle.splitio.proofs.lent.Given as goal
-
-abbrev pub invariant-loop-word : goal.invariant-loop-word
-invariant-loop-word l = map (λ word. word.now) l.lent.items ≡ map (λ word. word.bytes.items) (take l.word-index l.words)
