@@ -1,0 +1,5 @@
+pub mod Filled
+pub mod RunLaws
+pub mod WriteLaws
+pub mod CrashLaws
+pub mod FateLaws

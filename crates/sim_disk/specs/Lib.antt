@@ -1,0 +1,6 @@
+pub mod Bytes
+pub mod Sheet
+pub mod Medium
+pub mod Crash
+pub mod Runs
+pub mod Fields
