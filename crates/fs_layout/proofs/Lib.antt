@@ -1,0 +1,10 @@
+pub mod BitmapLaws
+pub mod BitsLaws
+pub mod DescriptorLaws
+pub mod DirectoryLaws
+pub mod FieldLaws
+pub mod InodeLaws
+pub mod NumberLaws
+pub mod ReadingLaws
+pub mod SuperLaws
+pub mod JournalLaws

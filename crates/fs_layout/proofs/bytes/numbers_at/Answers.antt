@@ -1,0 +1,13 @@
+use Rattle.std.proofs.Common.{arith}
+use Rattle.std.proofs.lemmas.Grind.{elements}
+use Rattle.fs_layout.proofs.NumberLaws.{numbers_more}
+use Rattle.fs_layout.proofs.bytes.numbers_at.Goals as goal
+
+pub loop-i-preserved : goal.loop-i-preserved
+loop-i-preserved c = record {
+  spelled = numbers_more c.args.bytes.now c.loop-i.values.items _ c.args.at c.loop-i.i _
+      (λ i. omega (arith, c.type_inv.bytes i)) (omega arith) c.loop-i.invariant.spelled c.number_at.ensures
+      c.in_ok-push.ensures.items;
+  len = omega (arith, c.in_ok-push.ensures.len);
+  fit = grind (arith, elements);
+}
