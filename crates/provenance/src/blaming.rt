@@ -59,7 +59,7 @@ pub fn blame<L: Ledger>(
     requires short { length h.now.events ≤ 2 ^ 32 }
     ensures { IfOk result (λ causes. causes ≡ blame h.now.events i) }
 {
-    let e = *h.at(i, steps);
+    let e = h.at(i, steps);
     let parents = parents_before(alloc, h, i, &e, steps)?;
     let mut causes = own(&e);
     for parent in parents.as_slice() {

@@ -45,7 +45,7 @@ pub(crate) fn open_before<L: Ledger>(
     let mut rest = count;
     while rest > 0 {
         rest -= 1;
-        let e = *h.at(rest, steps);
+        let e = h.at(rest, steps);
         push_dirtied(&e, rest as u32, target, places)?;
         if is_closed(&e, target) {
             rest = 0;
@@ -67,7 +67,7 @@ pub(crate) fn last_serve<L: Ledger>(
     let mut rest = count;
     while rest > 0 {
         rest -= 1;
-        if is_serve(h.at(rest, steps)) {
+        if is_serve(&h.at(rest, steps)) {
             return Some(rest);
         }
     }
@@ -88,7 +88,7 @@ pub(crate) fn seal_place<L: Ledger>(
     let mut rest = count;
     while rest > 0 {
         rest -= 1;
-        if is_seal_of(h.at(rest, steps), t) {
+        if is_seal_of(&h.at(rest, steps), t) {
             return Some(rest);
         }
     }
@@ -114,7 +114,7 @@ pub(crate) fn round_places<L: Ledger>(
     let mut rest = count;
     while rest > 0 {
         rest -= 1;
-        let e = *h.at(rest, steps);
+        let e = h.at(rest, steps);
         if is_seal(&e) {
             places.push(rest as u32)?;
             has_own |= is_seal_of(&e, t);

@@ -6,15 +6,15 @@ use Rattle.provenance.proofs.Blames.{own-alone, parent-more, all-parents, parent
 use Rattle.provenance.proofs.blaming.+blame.Goals as goal
 
 pub loop-parent-init : goal.loop-parent-init
-loop-parent-init g t c = own-alone (own_blame c.at.result.now) c.own-causes.result c.own-causes.ensures
+loop-parent-init g t c = own-alone (own_blame c.at-e.result) c.own-causes.result c.own-causes.ensures
 
 pub blame-requires : goal.blame-requires
 blame-requires g t c κs within =
     let items = c.as_slice-parent-items.result.now in
     let j : ℕ = get_or items c.loop-parent.parent-index 0 in
     let low : j < c.args.i =
-    parent-below c.args.h.now.events c.at.result.now c.args.i c.loop-parent.parent-index j items
-    c.at.ensures.event (c.as_slice-parent-items.ensures ∙ c.in_ok-parents.ensures) c.loop-parent-test.true refl in
+    parent-below c.args.h.now.events c.at-e.result c.args.i c.loop-parent.parent-index j items
+    c.at-e.ensures.event (c.as_slice-parent-items.ensures ∙ c.in_ok-parents.ensures) c.loop-parent-test.true refl in
     (omega arith, (within, (omega arith, c.requires.short)))
 
 pub loop-parent-preserved : goal.loop-parent-preserved
@@ -29,5 +29,5 @@ pub returns : goal.returns
 returns g t c =
     let items = c.as_slice-parent-items.result.now in
     let full : c.loop-parent.parent-index ≡ length items = omega arith in
-    all-parents c.args.h.now.events c.at.result.now c.args.i c.loop-parent.parent-index items c.own-causes.result c.loop-parent.causes
-    c.at.ensures.event (c.as_slice-parent-items.ensures ∙ c.in_ok-parents.ensures) c.own-causes.ensures full c.loop-parent.invariant
+    all-parents c.args.h.now.events c.at-e.result c.args.i c.loop-parent.parent-index items c.own-causes.result c.loop-parent.causes
+    c.at-e.ensures.event (c.as_slice-parent-items.ensures ∙ c.in_ok-parents.ensures) c.own-causes.ensures full c.loop-parent.invariant

@@ -36,8 +36,8 @@ loop-rest-preserved-then-is_seal g c =
       places = All-push (λ place. place < c.args.count) places n old.places (omega (arith, old.within));
       own = ap (λ b. b || c.is_seal_of-has_own.result) old.own
           ∙ ap (λ b. list_any (is_own t) (seals_at h places) || b) c.is_seal_of-has_own.ensures
-          ∙ own-more h c.at.result.now n t places c.at.ensures.event seal;
-      round = walk-seal h c.at.result.now n c.loop-rest.rest t places is c.at.ensures.event seal ∙ old.round;
+          ∙ own-more h c.at-e.result n t places c.at-e.ensures.event seal;
+      round = walk-seal h c.at-e.result n c.loop-rest.rest t places is c.at-e.ensures.event seal ∙ old.round;
     }
 
 pub returns-then-has_own-clause-round : goal.returns-then-has_own-clause-round
@@ -45,7 +45,7 @@ returns-then-has_own-clause-round g c =
     let n : ℕ = c.loop-rest.rest - 1 in
     let is : c.loop-rest.rest ≡ n + 1 = omega arith in
     let old = c.loop-rest.invariant in
-    walk-own c.args.h.now.events c.at.result.now n c.loop-rest.rest c.args.t c.loop-rest.places is c.at.ensures.event
+    walk-own c.args.h.now.events c.at-e.result n c.loop-rest.rest c.args.t c.loop-rest.places is c.at-e.ensures.event
     (sym c.is_seal.ensures ∙ c.if-is_seal.false) (sym c.is_clear_add.ensures ∙ c.if-is_clear_add.true) (sym old.own ∙ c.if-has_own.true)
     ∙ old.round
 
@@ -62,7 +62,7 @@ loop-rest-preserved-then-is_clear_add g c =
       places = All-nil (λ place. place < c.args.count);
       own = c.if-has_own.false;
       round =
-          walk-clear h c.at.result.now n c.loop-rest.rest c.args.t c.loop-rest.places is c.at.ensures.event
+          walk-clear h c.at-e.result n c.loop-rest.rest c.args.t c.loop-rest.places is c.at-e.ensures.event
           (sym c.is_seal.ensures ∙ c.if-is_seal.false) (sym c.is_clear_add.ensures ∙ c.if-is_clear_add.true) (sym old.own ∙ c.if-has_own.false)
           ∙ old.round;
     }
@@ -79,7 +79,7 @@ loop-rest-preserved g c =
       places = old.places;
       own = old.own;
       round =
-          walk-other c.args.h.now.events c.at.result.now n c.loop-rest.rest c.args.t c.loop-rest.places is c.at.ensures.event
+          walk-other c.args.h.now.events c.at-e.result n c.loop-rest.rest c.args.t c.loop-rest.places is c.at-e.ensures.event
           (sym c.is_seal.ensures ∙ c.if-is_seal.false) (sym c.is_clear_add.ensures ∙ c.if-is_clear_add.false)
           ∙ old.round;
     }

@@ -7,7 +7,7 @@ pub returns-then-is_seal_of-clause-place : goal.returns-then-is_seal_of-clause-p
 returns-then-is_seal_of-clause-place g c =
     let n : ℕ = c.loop-rest.rest - 1 in
     let is : c.loop-rest.rest ≡ n + 1 = omega arith in
-    seal-found c.args.h.now.events c.at.result.now n c.loop-rest.rest c.args.t is c.at.ensures.event (sym c.is_seal_of.ensures ∙ c.if-is_seal_of.true)
+    seal-found c.args.h.now.events c.at.result n c.loop-rest.rest c.args.t is c.at.ensures.event (sym c.is_seal_of.ensures ∙ c.if-is_seal_of.true)
     ∙ c.loop-rest.invariant.1.1
 
 pub loop-rest-preserved : goal.loop-rest-preserved
@@ -15,7 +15,7 @@ loop-rest-preserved g c =
     let n : ℕ = c.loop-rest.rest - 1 in
     let is : c.loop-rest.rest ≡ n + 1 = omega arith in
     let other = sym c.is_seal_of.ensures ∙ c.if-is_seal_of.false in
-    let passed = seal-passed c.args.h.now.events c.at.result.now n c.loop-rest.rest c.args.t is c.at.ensures.event other in
+    let passed = seal-passed c.args.h.now.events c.at.result n c.loop-rest.rest c.args.t is c.at.ensures.event other in
     (omega (arith, c.loop-rest.invariant.0), (c.requires, passed ∙ c.loop-rest.invariant.1.1))
 
 pub returns-clause-place : goal.returns-clause-place
