@@ -1,4 +1,5 @@
-//! Tests of the calls of `split_types`, `workload_reader` and `trace_text`, each once where all goes well.
+//! Tests of the calls of `split_types`, `workload_reader`, `trace_text` and `split_core`, each once where all
+//! goes well.
 //!
 //! They show what no contract says: that a call can succeed where memory is ample. Nothing stands on
 //! this crate. It is apart from those so that its tests don't make them be proved twice.

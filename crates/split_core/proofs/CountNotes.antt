@@ -1,5 +1,6 @@
 -- How many events each actor made.
-use Rattle.std.proofs.Common.{◌≡◌, ℕ, ◌+◌, ◌^◌, ◌<◌, ◌≤◌, List, [], length, Bool, true, false, ◌==◌, cond, refl, ap, sym, ◌∙◌, arith, inl, inr, slice_index, eq-eqb, ne_eqb}
+use Rattle.std.proofs.Common.{◌≡◌, ℕ, ◌+◌, ◌^◌, ◌<◌, ◌≤◌, List, [], length, Bool, true, false, ◌==◌, cond, refl, ap}
+use Rattle.std.proofs.Common.{sym, ◌∙◌, arith, inl, inr, slice_index, eq-eqb, ne_eqb}
 use Rattle.std.specs.Prelude.{slice_set}
 use Rattle.std.proofs.lemmas.Bool.{cases_eq}
 use Rattle.std.proofs.lemmas.Bool.Decides.{nat_tests}
@@ -40,7 +41,8 @@ some_request : Request
 some_request = record { id = record { 0 = 0 }; kind = Pages (record { 0 = 0 }) 0; first = 0; n = 0 }
 
 -- two actors are counted together where they have one place
-one_place : (n : ℕ) (a b : Actor) (r : Request) → IsActor n a → IsActor n b → is_by a (Add b r) ≡ (place_of n a == place_of n b)
+one_place : (n : ℕ) (a b : Actor) (r : Request) → IsActor n a → IsActor n b
+    → is_by a (Add b r) ≡ (place_of n a == place_of n b)
 one_place n (Client p) (Client q) r ia ib = grind (arith, nat_tests)
 one_place n (Client p) Wb r ia ib = grind (arith, nat_tests)
 one_place n (Client p) Cm r ia ib = grind (arith, nat_tests)
@@ -49,7 +51,8 @@ one_place n (Client p) (Dn k) r ia ib = grind (arith, nat_tests)
 one_place n (Client p) Tk r ia ib = grind (arith, nat_tests)
 one_place n a b r ia ib = grind (arith, nat_tests)
 
-by_place : (n : ℕ) (a : Actor) (e : Event) → IsActor n a → IsActor n (maker e) → is_by a e ≡ (place_of n a == place_of n (maker e))
+by_place : (n : ℕ) (a : Actor) (e : Event) → IsActor n a → IsActor n (maker e)
+    → is_by a e ≡ (place_of n a == place_of n (maker e))
 by_place n a e ia ib = one_place n a (maker e) some_request ia ib
 
 -- one event more
@@ -60,16 +63,24 @@ made_most : (h : List Event) (a : Actor) → made h a ≤ length h
 made_most [] a = omega arith
 made_most (h ▹ e) a = by_test (is_by a e) (made_more h e a) (made_most h a)
   where
-    by_test : (b : Bool) → made (h ▹ e) a ≡ cond b 1 0 + made h a → made h a ≤ length h → made (h ▹ e) a ≤ length (h ▹ e)
+    by_test : (b : Bool) → made (h ▹ e) a ≡ cond b 1 0 + made h a → made h a ≤ length h
+        → made (h ▹ e) a ≤ length (h ▹ e)
     by_test true more most = omega (arith, more, most)
     by_test false more most = omega (arith, more, most)
 
 -- the count of the actor that makes an event is small
-pub count_small : (w : Workload) (h : List Event) (e : Event) (c : Counts) → Fits w h e → CountsStand w c h → slice_index c.made.items (place_of (length w.procs) (maker e)) < 2 ^ 31
-count_small w h e c fits stands = omega (arith, stands.made_are (maker e) (maker_in w h e fits), made_most h (maker e), fits.short)
+pub count_small : (w : Workload) (h : List Event) (e : Event) (c : Counts) → Fits w h e → CountsStand w c h
+    → slice_index c.made.items (place_of (length w.procs) (maker e)) < 2 ^ 31
+count_small w h e c fits stands = omega (
+  arith,
+  stands.made_are (maker e) (maker_in w h e fits),
+  made_most h (maker e),
+  fits.short,
+)
 
 pub counts_after : (w : Workload) (h : List Event) (e : Event) (c new : Counts) → Fits w h e → CountsStand w c h
-    → new.made.items ≡ slice_set c.made.items (place_of (length w.procs) (maker e)) (slice_index c.made.items (place_of (length w.procs) (maker e)) + 1)
+    → new.made.items ≡ slice_set c.made.items (place_of (length w.procs) (maker e))
+    (slice_index c.made.items (place_of (length w.procs) (maker e)) + 1)
     → CountsStand w new (h ▹ e)
 counts_after w h e c new fits stands items = record {
   actors = ap length items ∙ length-set c.made.items at more ∙ stands.actors;
@@ -78,10 +89,12 @@ counts_after w h e c new fits stands items = record {
         ap (slice_index (slice_set c.made.items at more)) same
         ∙ get_or-set_same c.made.items at more 0 (omega (arith, place_within n (maker e) by, stands.actors))
         ∙ ap (λ k. slice_index c.made.items k + 1) (sym same) ∙ ap (λ k. k + 1) (stands.made_are a is)
-        ∙ sym (made_more h e a ∙ ap (λ b. cond b 1 0 + made h a) (by_place n a e is by ∙ eq-eqb (place_of n a) at same) ∙ add_one (made h a))
+        ∙ sym (made_more h e a ∙ ap (λ b. cond b 1 0 + made h a) (by_place n a e is by ∙ eq-eqb (place_of n a) at same)
+        ∙ add_one (made h a))
     | inr other ↦
         get_or-set_other c.made.items at (place_of n a) more 0 other ∙ stands.made_are a is
-        ∙ sym (made_more h e a ∙ ap (λ b. cond b 1 0 + made h a) (by_place n a e is by ∙ ne_eqb (place_of n a) at other) ∙ add_none (made h a))
+        ∙ sym (made_more h e a ∙ ap (λ b. cond b 1 0 + made h a) (by_place n a e is by ∙ ne_eqb (place_of n a) at other)
+        ∙ add_none (made h a))
   ];
 }
   where

@@ -1,5 +1,7 @@
 -- An event that comes next in a legal history fits.
-use Rattle.std.proofs.Common.{◌≡◌, ℕ, ◌+◌, ◌*◌, ◌/◌, ◌%◌, ◌==◌, ◌<◌, ◌≤◌, ◌^◌, List, [], ◌∷◌, ◌++◌, length, slice_get, filter, Bool, true, false, not, Some, refl, ap, sym, ◌∙◌, subst, arith, nat_lt, if◌then◌else◌}
+use Rattle.std.proofs.Common.{◌≡◌, ℕ, ◌+◌, ◌*◌, ◌/◌, ◌%◌, ◌==◌, ◌<◌, ◌≤◌, ◌^◌, List, [], ◌∷◌, ◌++◌, length, slice_get}
+use Rattle.std.proofs.Common.{filter, Bool, true, false, not, Some, refl, ap, sym, ◌∙◌, subst, arith, nat_lt}
+use Rattle.std.proofs.Common.{if◌then◌else◌}
 use Rattle.std.specs.Prelude.{drop, remove}
 use Rattle.std.proofs.lemmas.Bool.{eq-eqb, cond-true, lt-ltb}
 use Rattle.std.proofs.Math.Nat.{div-le_self}
@@ -33,10 +35,13 @@ use Rattle.split_types.specs.Next.{next, send_of}
 use Rattle.split_types.specs.Accepted.{IsAccepted}
 use Rattle.split_types.specs.Legal.{IsLegal}
 use Rattle.split_types.specs.Proving.Came.{Came, HasCall}
-use Rattle.split_types.specs.Proving.Came.Came.{came_enter, came_admit, came_put, came_ret, came_serve, came_add, came_send, came_done}
+use Rattle.split_types.specs.Proving.Came.Came.{came_enter, came_admit, came_put, came_ret, came_serve, came_add}
+use Rattle.split_types.specs.Proving.Came.Came.{came_send, came_done}
 use Rattle.split_types.specs.Proving.Known.{Known, dones}
 use Rattle.split_types.specs.Proving.Runs.{readiness}
-use Rattle.split_types.proofs.Shared.{came, RequestOf, known, queued_of, flight_of, queue_one, flight_one, run_within, writes_served, put_in, moved_most, frees, picks_first, tags_are_payers, dirty_have_causes, bill_is, few_events, procs_most}
+use Rattle.split_types.proofs.Shared.{came, RequestOf, known, queued_of, flight_of, queue_one, flight_one, run_within}
+use Rattle.split_types.proofs.Shared.{writes_served, put_in, moved_most, frees, picks_first, tags_are_payers}
+use Rattle.split_types.proofs.Shared.{dirty_have_causes, bill_is, few_events, procs_most}
 use Rattle.split_core.specs.Fits.{ClientFits, PutFits, AddFits, SendFits, DoneFits, FitsKind, Fits}
 
 -- ---- numbers
@@ -49,7 +54,12 @@ share_most cost set p = by_test (has set p) (nat_lt (rank set p) (cost % length 
     by_test false b = omega arith
 
 bill_most : (w : Workload) (h : List Event) (id p : ℕ) → IsAccepted w → Known w h → bill w h id p ≤ 133
-bill_most w h id p accepted f = omega (arith, bill_is w h id p accepted, share_most (cost_of h id) (tag h id) p, f.small.cost_most id)
+bill_most w h id p accepted f = omega (
+  arith,
+  bill_is w h id p accepted,
+  share_most (cost_of h id) (tag h id) p,
+  f.small.cost_most id,
+)
 
 dones_most : (h : List Event) → dones h ≤ length h
 dones_most [] = omega arith
@@ -66,11 +76,20 @@ billed_most w (h ▹ Done k id ok) p accepted legal =
 billed_most w (h ▹ e) p accepted legal = omega (arith, billed_most w h p accepted legal.1)
 
 pub short : (w : Workload) (h : List Event) → IsAccepted w → IsLegal w h → length h < 2 ^ 31
-short w h accepted legal = omega (arith, few_events w h accepted legal, accepted.workload.calls.few, accepted.workload.calls.few_pages)
+short w h accepted legal = omega (
+  arith,
+  few_events w h accepted legal,
+  accepted.workload.calls.few,
+  accepted.workload.calls.few_pages,
+)
 
 -- ---- clients
 calls_most : (w : Workload) (p : ℕ) → length (calls_of w p) ≤ length w.calls
-calls_most w p = omega (arith, length-map (filter (is_call_of p) w.calls) (λ c. c.1), length-filter_both (is_call_of p) (λ c. not (is_call_of p c)) (λ c. refl) w.calls)
+calls_most w p = omega (
+  arith,
+  length-map (filter (is_call_of p) w.calls) (λ c. c.1),
+  length-filter_both (is_call_of p) (λ c. not (is_call_of p c)) (λ c. refl) w.calls,
+)
 
 client_fits : (w : Workload) (h : List Event) (p : Pid) (c : Call) → IsAccepted w → HasCall w h p c → ClientFits w h p
 client_fits w h p c accepted call = record {
@@ -84,7 +103,8 @@ same_client : (w : Workload) (h : List Event) (p q : Pid) → Client p ≡ Clien
 same_client w h p q same fits = subst (ClientFits w h) (cc) fits
 
 -- ---- kinds
-put_fits : (w : Workload) (h : List Event) (by : Pid) (s : Serial) (g from to fill : ℕ) → IsAccepted w → IsLegal w h → Came w h (Put by s g from to fill) → PutFits w h by s g from to
+put_fits : (w : Workload) (h : List Event) (by : Pid) (s : Serial) (g from to fill : ℕ) → IsAccepted w → IsLegal w h
+    → Came w h (Put by s g from to fill) → PutFits w h by s g from to
 put_fits w h by s g from to fill accepted legal c =
     let f = known w h accepted legal
     in let p = put_in w h by s g from to fill accepted f c
@@ -97,7 +117,8 @@ put_fits w h by s g from to fill accepted legal c =
       short = omega (arith, moved_most w h by.0 accepted legal);
     }
 
-add_fits : (w : Workload) (h : List Event) (run : Run) → IsAccepted w → Known w h → served_run (service h) ≡ Some run → AddFits w h Wb (request_for w (adds h) run)
+add_fits : (w : Workload) (h : List Event) (run : Run) → IsAccepted w → Known w h → served_run (service h) ≡ Some run
+    → AddFits w h Wb (request_for w (adds h) run)
 add_fits w h run accepted f served = record {
   by_is = refl;
   number = refl;
@@ -109,16 +130,19 @@ add_fits w h run accepted f served = record {
 }
 
 -- the cost of a request that is sent, and where the head stands then
-sent_costs : (w : Workload) (h : List Event) (r : Request) → RequestOf w h r.id.0 r → cost_of (h ▹ send_of h r) r.id.0 ≡ cost_at (head h) r.first r.n
+sent_costs : (w : Workload) (h : List Event) (r : Request) → RequestOf w h r.id.0 r
+    → cost_of (h ▹ send_of h r) r.id.0 ≡ cost_at (head h) r.first r.n
 sent_costs w h r of =
-    cond-true (r.id.0 == r.id.0) (cost_at (head h) (first_of h r.id.0) (length_of h r.id.0)) (cost_of h r.id.0) (eq-eqb r.id.0 r.id.0 refl)
+    cond-true (r.id.0 == r.id.0) (cost_at (head h) (first_of h r.id.0) (length_of h r.id.0)) (cost_of h r.id.0)
+    (eq-eqb r.id.0 r.id.0 refl)
     ∙ ap (λ n. cost_at (head h) n (length_of h r.id.0)) of.first_is ∙ ap (cost_at (head h) r.first) of.length_is
 
 rest_removed : {X : Type 0} (xs : List X) → drop 1 xs ≡ remove xs 0
 rest_removed [] = refl
 rest_removed (x ∷ xs) = refl
 
-send_fits : (w : Workload) (h : List Event) (r : Request) → IsAccepted w → IsLegal w h → length (in_flight h) < w.depth → pick w h ≡ Some r → SendFits w h r.id (cost_at (head h) r.first r.n)
+send_fits : (w : Workload) (h : List Event) (r : Request) → IsAccepted w → IsLegal w h → length (in_flight h) < w.depth
+    → pick w h ≡ Some r → SendFits w h r.id (cost_at (head h) r.first r.n)
 send_fits w h r accepted legal free picked =
     let f = known w h accepted legal
     in let first : slice_get (queued h) 0 ≡ Some r = sym (picks_first w h accepted f) ∙ picked
@@ -137,7 +161,8 @@ send_fits w h r accepted legal free picked =
       end_most = run_within w r accepted of.run;
     }
 
-done_fits : (w : Workload) (h : List Event) (k : ℕ) (r : Request) → IsAccepted w → IsLegal w h → slice_get (in_flight h) k ≡ Some r → DoneFits w h k r.id true
+done_fits : (w : Workload) (h : List Event) (k : ℕ) (r : Request) → IsAccepted w → IsLegal w h
+    → slice_get (in_flight h) k ≡ Some r → DoneFits w h k r.id true
 done_fits w h k r accepted legal flies =
     let f = known w h accepted legal
     in let of = flight_of w h k r f flies
@@ -172,17 +197,22 @@ kind_fits w h e accepted legal (came_add run served) = add_fits w h run accepted
 kind_fits w h e accepted legal (came_send r free picked) = send_fits w h r accepted legal free picked
 kind_fits w h e accepted legal (came_done k r flies) = done_fits w h k r accepted legal flies
 
-by_fits : (w : Workload) (h : List Event) (e : Event) (p : Pid) → IsAccepted w → Came w h e → maker e ≡ Client p → ClientFits w h p
+by_fits : (w : Workload) (h : List Event) (e : Event) (p : Pid) → IsAccepted w → Came w h e → maker e ≡ Client p
+    → ClientFits w h p
 by_fits w h e p accepted (came_enter q c call out) is = same_client w h q p is (client_fits w h q c accepted call)
-by_fits w h e p accepted (came_admit q c call in' out may) is = same_client w h q p is (client_fits w h q c accepted call)
-by_fits w h e p accepted (came_put q name off len fill s writing left) is = same_client w h q p is (client_fits w h q (Write name off len fill) accepted writing.has)
-by_fits w h e p accepted (came_ret q name off len fill s writing all) is = same_client w h q p is (client_fits w h q (Write name off len fill) accepted writing.has)
+by_fits w h e p accepted (came_admit q c call in' out may) is =
+    same_client w h q p is (client_fits w h q c accepted call)
+by_fits w h e p accepted (came_put q name off len fill s writing left) is =
+    same_client w h q p is (client_fits w h q (Write name off len fill) accepted writing.has)
+by_fits w h e p accepted (came_ret q name off len fill s writing all) is =
+    same_client w h q p is (client_fits w h q (Write name off len fill) accepted writing.has)
 by_fits w h e p accepted (came_serve s g idle found) is = absurd (cc)
 by_fits w h e p accepted (came_add run served) is = absurd (cc)
 by_fits w h e p accepted (came_send r free picked) is = absurd (cc)
 by_fits w h e p accepted (came_done k r flies) is = absurd (cc)
 
-pub fits : (w : Workload) (h : List Event) (a : Actor) (e : Event) → IsAccepted w → IsLegal w h → next w h a ≡ Some e → Fits w h e
+pub fits : (w : Workload) (h : List Event) (a : Actor) (e : Event) → IsAccepted w → IsLegal w h → next w h a ≡ Some e
+    → Fits w h e
 fits w h a e accepted legal is =
     let c = came w h a e is
     in record {

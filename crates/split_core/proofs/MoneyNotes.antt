@@ -1,5 +1,6 @@
 -- Bills, process by process.
-use Rattle.std.proofs.Common.{◌≡◌, ℕ, ◌+◌, ◌-◌, ◌<◌, ◌≤◌, List, [], ◌∷◌, length, filter, Bool, true, false, ◌||◌, ◌==◌, cond, slice_index, refl, ap, ◌∙◌, subst, arith, if◌then◌else◌, sum_by, inl, inr}
+use Rattle.std.proofs.Common.{◌≡◌, ℕ, ◌+◌, ◌-◌, ◌<◌, ◌≤◌, List, [], ◌∷◌, length, filter, Bool, true, false, ◌||◌, ◌==◌}
+use Rattle.std.proofs.Common.{cond, slice_index, refl, ap, ◌∙◌, subst, arith, if◌then◌else◌, sum_by, inl, inr}
 use Rattle.std.specs.Prelude.{slice_set}
 use Rattle.std.specs.List.{range_with_len}
 use Rattle.std.proofs.lemmas.Bool.{cases_eq}
@@ -22,7 +23,8 @@ times_filter : (f : ℕ → Bool) (xs : List ℕ) (p : ℕ) → times (filter f 
 times_filter f [] p = omega arith
 times_filter f (x ∷ xs) p = by_test (f x) (times_filter f xs p)
   where
-    by_test : (b : Bool) → times (filter f xs) p ≤ times xs p → times (cond b (x ∷ filter f xs) (filter f xs)) p ≤ times (x ∷ xs) p
+    by_test : (b : Bool) → times (filter f xs) p ≤ times xs p
+        → times (cond b (x ∷ filter f xs) (filter f xs)) p ≤ times (x ∷ xs) p
     by_test true rest = omega (arith, rest, times-cons x (filter f xs) p, times-cons x xs p)
     by_test false rest = omega (arith, rest, times-cons x xs p)
 
@@ -42,7 +44,8 @@ pub whole_left : (set : List ℕ) → IsSet set → IsLeftOf set set
 unfolding pids times
 whole_left set is = record {
   among = λ p is. is;
-  once = λ p. subst (λ xs. times xs p ≤ 1) is (omega (arith, times_filter (has set) (range_with_len 1 256) p, range_once 1 p 1 256));
+  once = λ p. subst (λ xs. times xs p ≤ 1) is
+      (omega (arith, times_filter (has set) (range_with_len 1 256) p, range_once 1 p 1 256));
 }
 
 pub rest_left : (set : List ℕ) (q : ℕ) (rest : List ℕ) → IsLeftOf set (q ∷ rest) → IsLeftOf set rest
@@ -79,28 +82,41 @@ come_first cost set q rest left =
     let gone = first_once set q rest left in
     (ap (λ b. if b then share_of cost set q else 0) here, ap (λ b. if b then share_of cost set q else 0) gone)
 
-pub come_other : (cost : ℕ) (set : List ℕ) (q : ℕ) (rest : List ℕ) (p : ℕ) → (q ≡ p → ⊥) → to_come cost set (q ∷ rest) p ≡ to_come cost set rest p
+pub come_other : (cost : ℕ) (set : List ℕ) (q : ℕ) (rest : List ℕ) (p : ℕ) → (q ≡ p → ⊥)
+    → to_come cost set (q ∷ rest) p ≡ to_come cost set rest p
 come_other cost set q rest p other =
     let test : (q == p) ≡ false = grind (arith, nat_tests, other) in
     ap (λ b. if b || has rest p then share_of cost set p else 0) test
 
 -- one process more is billed
-pub billed_first : (cost : ℕ) (set : List ℕ) (q : ℕ) (rest bills due : List ℕ) → IsLeftOf set (q ∷ rest) → 1 ≤ q → q ≤ length bills
-    → ((i : ℕ) → i < length bills → slice_index bills i + to_come cost set (q ∷ rest) (i + 1) ≡ slice_index due i + share_of cost set (i + 1))
+pub billed_first : (cost : ℕ) (set : List ℕ) (q : ℕ) (rest bills due : List ℕ) → IsLeftOf set (q ∷ rest) → 1 ≤ q
+    → q ≤ length bills
+    → ((i : ℕ) → i < length bills → slice_index bills i + to_come cost set (q ∷ rest) (i + 1)
+    ≡ slice_index due i + share_of cost set (i + 1))
     → (i : ℕ) → i < length bills
-    → slice_index (slice_set bills (q - 1) (slice_index bills (q - 1) + share_of cost set q)) i + to_come cost set rest (i + 1) ≡ slice_index due i + share_of cost set (i + 1)
+    → slice_index (slice_set bills (q - 1) (slice_index bills (q - 1) + share_of cost set q)) i + to_come cost set rest
+    (i + 1) ≡ slice_index due i + share_of cost set (i + 1)
 billed_first cost set q rest bills due left least most before i within = elim (cases_eq i (q - 1)) [
   | inl here ↦
-      let read : slice_index (slice_set bills (q - 1) (slice_index bills (q - 1) + share_of cost set q)) i ≡ slice_index bills (q - 1) + share_of cost set q =
-      ap (slice_index (slice_set bills (q - 1) (slice_index bills (q - 1) + share_of cost set q))) here ∙ get_or-set_same bills (q - 1) (slice_index bills (q - 1) + share_of cost set q) 0 (omega arith) in
+      let read : slice_index (slice_set bills (q - 1) (slice_index bills (q - 1) + share_of cost set q)) i
+      ≡ slice_index bills (q - 1) + share_of cost set q =
+      ap (slice_index (slice_set bills (q - 1) (slice_index bills (q - 1) + share_of cost set q))) here
+      ∙ get_or-set_same bills (q - 1) (slice_index bills (q - 1) + share_of cost set q) 0 (omega arith) in
       let number : i + 1 ≡ q = omega arith in
       let was = before i within in
       let same : slice_index bills i ≡ slice_index bills (q - 1) = ap (slice_index bills) here in
       let all = (come_first cost set q rest left).0 in
       let none = (come_first cost set q rest left).1 in
-      rw (read, number, none) (omega (arith, same, subst (λ n. slice_index bills i + to_come cost set (q ∷ rest) n ≡ slice_index due i + share_of cost set n) number was, all))
+      rw (read, number, none) (omega (
+        arith,
+        same,
+        subst (λ n. slice_index bills i + to_come cost set (q ∷ rest) n
+            ≡ slice_index due i + share_of cost set n) number was,
+        all,
+      ))
   | inr other ↦
-      let read : slice_index (slice_set bills (q - 1) (slice_index bills (q - 1) + share_of cost set q)) i ≡ slice_index bills i =
+      let read : slice_index (slice_set bills (q - 1) (slice_index bills (q - 1) + share_of cost set q)) i
+      ≡ slice_index bills i =
       get_or-set_other bills (q - 1) i (slice_index bills (q - 1) + share_of cost set q) 0 other in
       let same = come_other cost set q rest (i + 1) (λ e. other (omega arith)) in
       omega (arith, read, before i within, same)

@@ -1,5 +1,7 @@
 -- Turns: the first actor that has a next event, what `go` lines let act, and what is left to drain.
-use Rattle.std.proofs.Common.{◌≡◌, ℕ, zero, suc, ◌+◌, ◌-◌, ◌<◌, ◌≤◌, List, [], ◌∷◌, ◌++◌, length, map, take, replicate, slice_get, Bool, true, false, Option, Some, None, refl, ap, sym, ◌∙◌, subst, arith, nat_le, ◌&&◌, if◌then◌else◌}
+use Rattle.std.proofs.Common.{◌≡◌, ℕ, zero, suc, ◌+◌, ◌-◌, ◌<◌, ◌≤◌, List, [], ◌∷◌, ◌++◌, length, map, take, replicate}
+use Rattle.std.proofs.Common.{slice_get, Bool, true, false, Option, Some, None, refl, ap, sym, ◌∙◌, subst, arith}
+use Rattle.std.proofs.Common.{nat_le, ◌&&◌, if◌then◌else◌}
 use Rattle.std.specs.Prelude.{IfNone, drop}
 use Rattle.std.specs.List.{flat_map}
 use Rattle.std.proofs.lemmas.Bool.{eqb-true}
@@ -18,7 +20,8 @@ use Rattle.split_types.specs.Calls.{returned, call_of}
 use Rattle.split_types.specs.Clients.{client_state, next_of_call}
 use Rattle.split_types.specs.Next.{next}
 use Rattle.split_types.specs.Accepted.{IsAccepted}
-use Rattle.split_types.specs.Legal.{IsLegal, is_finished, is_drained, first_next, turn_order, turn, drained_for, drain, play}
+use Rattle.split_types.specs.Legal.{IsLegal, is_finished, is_drained, first_next, turn_order, turn, drained_for, drain}
+use Rattle.split_types.specs.Legal.{play}
 use Rattle.split_types.proofs.Shared.{take_at_some, maker_is, never_stuck}
 use Rattle.split_core.specs.declared.step.Step.{Step}
 use Rattle.split_core.specs.declared.step.Step.TheVariants.{Made, Idle}
@@ -33,21 +36,25 @@ abbrev pub first_of : Option Event → Option Event → Option Event
 first_of None later = later
 first_of (Some e) later = Some e
 
-pub first_next-append : (w : Workload) (h : List Event) (xs ys : List Actor) → first_next w h (xs ++ ys) ≡ first_of (first_next w h xs) (first_next w h ys)
+pub first_next-append : (w : Workload) (h : List Event) (xs ys : List Actor)
+    → first_next w h (xs ++ ys) ≡ first_of (first_next w h xs) (first_next w h ys)
 first_next-append w h [] ys = refl
 first_next-append w h (x ∷ xs) ys = by_next (next w h x) (first_next-append w h xs ys)
   where
     by_next : (o : Option Event) → first_next w h (xs ++ ys) ≡ first_of (first_next w h xs) (first_next w h ys)
-        → (elim o [ Some e ↦ Some e | None ↦ first_next w h (xs ++ ys) ]) ≡ first_of (elim o [ Some e ↦ Some e | None ↦ first_next w h xs ]) (first_next w h ys)
+        → (elim o [ Some e ↦ Some e | None ↦ first_next w h (xs ++ ys) ])
+        ≡ first_of (elim o [ Some e ↦ Some e | None ↦ first_next w h xs ]) (first_next w h ys)
     by_next None rest = rest
     by_next (Some e) rest = refl
 
 -- an actor without a next event is passed over
-pub pass : (w : Workload) (h : List Event) (a : Actor) (rest : List Actor) → next w h a ≡ None → first_next w h (a ∷ rest) ≡ first_next w h rest
+pub pass : (w : Workload) (h : List Event) (a : Actor) (rest : List Actor) → next w h a ≡ None
+    → first_next w h (a ∷ rest) ≡ first_next w h rest
 pass w h a rest none = ap (λ o. elim o [ Some e ↦ Some e | None ↦ first_next w h rest ]) none
 
 -- one with a next event acts
-pub hit : (w : Workload) (h : List Event) (a : Actor) (rest : List Actor) (e : Event) → next w h a ≡ Some e → first_next w h (a ∷ rest) ≡ Some e
+pub hit : (w : Workload) (h : List Event) (a : Actor) (rest : List Actor) (e : Event) → next w h a ≡ Some e
+    → first_next w h (a ∷ rest) ≡ Some e
 hit w h a rest e some = ap (λ o. elim o [ Some e ↦ Some e | None ↦ first_next w h rest ]) some
 
 -- a process whose calls have all returned has no next event
@@ -56,7 +63,8 @@ none_left w h p finished =
     let all = eqb-true (returned h p) (length (calls_of w p)) finished in
     let none : call_of w h p ≡ None = slice_get_past (calls_of w p) (returned h p) (omega (arith, all)) in
     let state = client_state w h (record { 0 = p }) in
-    both (nat_le 1 p && nat_le p (length w.procs)) (ap (λ o. elim o [ None ↦ None | Some call ↦ next_of_call state call ]) none)
+    both (nat_le 1 p && nat_le p (length w.procs))
+    (ap (λ o. elim o [ None ↦ None | Some call ↦ next_of_call state call ]) none)
   where
     both : (b : Bool) {x : Option Event} → x ≡ None → (if b then x else None) ≡ None
     both true e = e
@@ -65,23 +73,30 @@ none_left w h p finished =
 more : (w : Workload) (i : ℕ) → i < length w.procs → clients_from w i ≡ client (i + 1) ∷ clients_from w (i + 1)
 more w i below =
     let here = get_or-range_with_len 1 (length w.procs) i 0 below ∙ (let next : 1 + i ≡ i + 1 = omega arith in next) in
-    ap (map client) (drop_more (processes w) i 0 (omega (arith, below, length-range_with_len 1 (length w.procs))) ∙ ap (λ p. p ∷ drop (i + 1) (processes w)) here)
+    ap (map client) (drop_more (processes w) i 0 (omega (arith, below, length-range_with_len 1 (length w.procs)))
+    ∙ ap (λ p. p ∷ drop (i + 1) (processes w)) here)
 
 -- the processes behind one more
-pub pass_client : (w : Workload) (h : List Event) (i : ℕ) → i < length w.procs → next w h (client (i + 1)) ≡ None → first_next w h (clients_from w i) ≡ first_next w h (clients_from w (i + 1))
+pub pass_client : (w : Workload) (h : List Event) (i : ℕ) → i < length w.procs → next w h (client (i + 1)) ≡ None
+    → first_next w h (clients_from w i) ≡ first_next w h (clients_from w (i + 1))
 pass_client w h i below none =
     ap (first_next w h) (more w i below) ∙ pass w h (client (i + 1)) (clients_from w (i + 1)) none
 
 -- one behind so many with a next event acts
-pub hit_client : (w : Workload) (h : List Event) (i : ℕ) (e : Event) → i < length w.procs → next w h (client (i + 1)) ≡ Some e → first_next w h (clients_from w i) ≡ Some e
-hit_client w h i e below some = ap (first_next w h) (more w i below) ∙ hit w h (client (i + 1)) (clients_from w (i + 1)) e some
+pub hit_client : (w : Workload) (h : List Event) (i : ℕ) (e : Event) → i < length w.procs
+    → next w h (client (i + 1)) ≡ Some e → first_next w h (clients_from w i) ≡ Some e
+hit_client w h i e below some = ap (first_next w h) (more w i below)
+    ∙ hit w h (client (i + 1)) (clients_from w (i + 1)) e some
 
 -- no process is behind the last
 pub no_client : (w : Workload) (h : List Event) (i : ℕ) → length w.procs ≤ i → first_next w h (clients_from w i) ≡ None
-no_client w h i past = ap (λ l. first_next w h (map client l)) (drop_all i (processes w) (omega (arith, past, length-range_with_len 1 (length w.procs))))
+no_client w h i past = ap (λ l. first_next w h (map client l))
+    (drop_all i (processes w) (omega (arith, past, length-range_with_len 1 (length w.procs))))
 
 -- those whose calls have returned are passed over
-pub pass_finished : (w : Workload) (h : List Event) (n : ℕ) → n ≤ length w.procs → ((i : ℕ) → i < n → is_finished w h (i + 1) ≡ true) → first_next w h (clients_from w 0) ≡ first_next w h (clients_from w n)
+pub pass_finished : (w : Workload) (h : List Event) (n : ℕ) → n ≤ length w.procs
+    → ((i : ℕ) → i < n → is_finished w h (i + 1) ≡ true)
+    → first_next w h (clients_from w 0) ≡ first_next w h (clients_from w n)
 pass_finished w h zero within finished = refl
 pass_finished w h (suc n) within finished =
     pass_finished w h n (omega (arith, within)) (λ i lt. finished i (omega (arith, lt)))
@@ -93,15 +108,19 @@ abbrev pub others : List Actor
 others = Wb ∷ Cm ∷ Dq ∷ Dn 0 ∷ Tk ∷ []
 
 -- the actors in the order of turns, where so many processes have finished
-pub turn_is : (w : Workload) (h : List Event) (n : ℕ) → n ≤ length w.procs → ((i : ℕ) → i < n → is_finished w h (i + 1) ≡ true)
+pub turn_is : (w : Workload) (h : List Event) (n : ℕ) → n ≤ length w.procs
+    → ((i : ℕ) → i < n → is_finished w h (i + 1) ≡ true)
     → first_next w h (turn_order w) ≡ first_of (first_next w h (clients_from w n)) (first_next w h others)
-turn_is w h n within finished = first_next-append w h (clients_from w 0) others ∙ ap (λ o. first_of o (first_next w h others)) (pass_finished w h n within finished)
+turn_is w h n within finished = first_next-append w h (clients_from w 0) others
+    ∙ ap (λ o. first_of o (first_next w h others)) (pass_finished w h n within finished)
 
 -- the others, where writeback has no next event, and where the dispatcher has none besides
-pub pass_writeback : (w : Workload) (h : List Event) → next w h Wb ≡ None → first_next w h others ≡ first_next w h (Dq ∷ Dn 0 ∷ Tk ∷ [])
+pub pass_writeback : (w : Workload) (h : List Event) → next w h Wb ≡ None
+    → first_next w h others ≡ first_next w h (Dq ∷ Dn 0 ∷ Tk ∷ [])
 pass_writeback w h none = pass w h Wb (Cm ∷ Dq ∷ Dn 0 ∷ Tk ∷ []) none
 
-pub pass_dispatcher : (w : Workload) (h : List Event) → next w h Wb ≡ None → next w h Dq ≡ None → first_next w h others ≡ next w h (Dn 0)
+pub pass_dispatcher : (w : Workload) (h : List Event) → next w h Wb ≡ None → next w h Dq ≡ None
+    → first_next w h others ≡ next w h (Dn 0)
 pass_dispatcher w h none wait = pass_writeback w h none ∙ pass w h Dq (Dn 0 ∷ Tk ∷ []) wait ∙ last (next w h (Dn 0))
   where
     last : (o : Option Event) → (elim o [ Some e ↦ Some e | None ↦ None ]) ≡ o
@@ -113,7 +132,8 @@ pub comes : (w : Workload) (h : List Event) (a : Actor) (e : Event) → next w h
 comes w h a e is = ap (next w h) (maker_is w h a e is) ∙ is
 
 -- the event that a turn makes is the next of its maker
-pub first_comes : (w : Workload) (h : List Event) (actors : List Actor) (e : Event) → first_next w h actors ≡ Some e → next w h (maker e) ≡ Some e
+pub first_comes : (w : Workload) (h : List Event) (actors : List Actor) (e : Event) → first_next w h actors ≡ Some e
+    → next w h (maker e) ≡ Some e
 first_comes w h [] e is = absurd (cc)
 first_comes w h (a ∷ actors) e is = by_next (next w h a) refl (first_comes w h actors e) is
   where
@@ -126,32 +146,44 @@ first_comes w h (a ∷ actors) e is = by_next (next w h a) refl (first_comes w h
 pub record Asks (v : Simulation) (behind : Option Event) : Type 0 where
   pub accepted : IsAccepted v.workload
   pub legal : IsLegal v.workload v.history
-  pub turn : first_next v.workload v.history (turn_order v.workload) ≡ first_of behind (first_next v.workload v.history others)
+  pub turn : first_next v.workload v.history (turn_order v.workload)
+      ≡ first_of behind (first_next v.workload v.history others)
 
-pub asks : (w : Workload) (plan : Plan) (p : Parts) (h : List Event) (v : Simulation) (behind : Option Event) → StandsFor w plan p h → (let s : Simulation = record { workload = w; history = h } in s ≡ v)
+pub asks : (w : Workload) (plan : Plan) (p : Parts) (h : List Event) (v : Simulation) (behind : Option Event)
+    → StandsFor w plan p h → (let s : Simulation = record { workload = w; history = h } in s ≡ v)
     → behind ≡ first_next v.workload v.history (clients_from v.workload p.clients.finished) → Asks v behind
-asks w plan p h v behind stands same is = subst (λ s. behind ≡ first_next s.workload s.history (clients_from s.workload p.clients.finished) → Asks s behind) same here is
+asks w plan p h v behind stands same is = subst (λ s. behind
+    ≡ first_next s.workload s.history (clients_from s.workload p.clients.finished) → Asks s behind) same here is
   where
-    here : behind ≡ first_next w h (clients_from w p.clients.finished) → Asks (record { workload = w; history = h }) behind
+    here : behind ≡ first_next w h (clients_from w p.clients.finished)
+        → Asks (record { workload = w; history = h }) behind
     here from = record {
       accepted = stands.accepted;
       legal = stands.legal;
-      turn = turn_is w h p.clients.finished stands.parts.clients.finished_most stands.parts.clients.finished_are ∙ ap (λ o. first_of o (first_next w h others)) (sym from);
+      turn = turn_is w h p.clients.finished stands.parts.clients.finished_most stands.parts.clients.finished_are
+          ∙ ap (λ o. first_of o (first_next w h others)) (sym from);
     }
 
-pub client_asks : (v : Simulation) (e : Event) → Asks v (Some e) → Some e ≡ first_next v.workload v.history (turn_order v.workload)
+pub client_asks : (v : Simulation) (e : Event) → Asks v (Some e)
+    → Some e ≡ first_next v.workload v.history (turn_order v.workload)
 client_asks v e here = sym here.turn
 
-pub writeback_asks : (v : Simulation) (e : Event) → Asks v None → next v.workload v.history Wb ≡ Some e → Some e ≡ first_next v.workload v.history (turn_order v.workload)
+pub writeback_asks : (v : Simulation) (e : Event) → Asks v None → next v.workload v.history Wb ≡ Some e
+    → Some e ≡ first_next v.workload v.history (turn_order v.workload)
 writeback_asks v e here wb = sym (here.turn ∙ hit v.workload v.history Wb (Cm ∷ Dq ∷ Dn 0 ∷ Tk ∷ []) e wb)
 
-pub dispatcher_asks : (v : Simulation) (e : Event) → Asks v None → next v.workload v.history Wb ≡ None → next v.workload v.history Dq ≡ Some e → Some e ≡ first_next v.workload v.history (turn_order v.workload)
-dispatcher_asks v e here wb dq = sym (here.turn ∙ pass_writeback v.workload v.history wb ∙ hit v.workload v.history Dq (Dn 0 ∷ Tk ∷ []) e dq)
+pub dispatcher_asks : (v : Simulation) (e : Event) → Asks v None → next v.workload v.history Wb ≡ None
+    → next v.workload v.history Dq ≡ Some e → Some e ≡ first_next v.workload v.history (turn_order v.workload)
+dispatcher_asks v e here wb dq = sym (here.turn ∙ pass_writeback v.workload v.history wb
+    ∙ hit v.workload v.history Dq (Dn 0 ∷ Tk ∷ []) e dq)
 
-pub completion_asks : (v : Simulation) → Asks v None → next v.workload v.history Wb ≡ None → next v.workload v.history Dq ≡ None → next v.workload v.history (Dn 0) ≡ first_next v.workload v.history (turn_order v.workload)
+pub completion_asks : (v : Simulation) → Asks v None → next v.workload v.history Wb ≡ None
+    → next v.workload v.history Dq ≡ None → next v.workload v.history (Dn 0)
+    ≡ first_next v.workload v.history (turn_order v.workload)
 completion_asks v here wb dq = sym (here.turn ∙ pass_dispatcher v.workload v.history wb dq)
 
-pub none_drained : (v : Simulation) → Asks v None → (o : Option Event) → o ≡ first_next v.workload v.history (turn_order v.workload) → IfNone o (is_drained v.workload v.history ≡ true)
+pub none_drained : (v : Simulation) → Asks v None → (o : Option Event)
+    → o ≡ first_next v.workload v.history (turn_order v.workload) → IfNone o (is_drained v.workload v.history ≡ true)
 none_drained v here None is = never_stuck v.workload v.history here.accepted here.legal (sym is)
 none_drained v here (Some e) is = tt
 
@@ -161,8 +193,10 @@ pub play-append : (w : Workload) (h : List Event) (xs ys : List Actor) → play 
 play-append w h [] ys = refl
 play-append w h (x ∷ xs) ys = by_next (next w h x) (play-append w h xs ys) (λ e. play-append w (h ▹ e) xs ys)
   where
-    by_next : (o : Option Event) → play w h (xs ++ ys) ≡ play w (play w h xs) ys → ((e : Event) → play w (h ▹ e) (xs ++ ys) ≡ play w (play w (h ▹ e) xs) ys)
-        → (elim o [ None ↦ play w h (xs ++ ys) | Some e ↦ play w (h ▹ e) (xs ++ ys) ]) ≡ play w (elim o [ None ↦ play w h xs | Some e ↦ play w (h ▹ e) xs ]) ys
+    by_next : (o : Option Event) → play w h (xs ++ ys) ≡ play w (play w h xs) ys
+        → ((e : Event) → play w (h ▹ e) (xs ++ ys) ≡ play w (play w (h ▹ e) xs) ys)
+        → (elim o [ None ↦ play w h (xs ++ ys) | Some e ↦ play w (h ▹ e) (xs ++ ys) ])
+        ≡ play w (elim o [ None ↦ play w h xs | Some e ↦ play w (h ▹ e) xs ]) ys
     by_next None none some = none
     by_next (Some e) none some = some e
 
@@ -174,9 +208,14 @@ pub record Plays (start now : Simulation) (actors : List Actor) : Type 0 where
 pub plays_none : (start : Simulation) → Plays start start []
 plays_none start = record { workload = refl; history = refl }
 
-pub plays_all : (start now : Simulation) (actors : List Actor) → Plays start now actors → now ≡ (let s : Simulation = record { workload = start.workload; history = play start.workload start.history actors } in s)
+pub plays_all : (start now : Simulation) (actors : List Actor) → Plays start now actors
+    → now ≡ (let s : Simulation = record {
+      workload = start.workload;
+      history = play start.workload start.history actors;
+    } in s)
 plays_all start now actors plays =
-    ap (λ w. let s : Simulation = record { workload = w; history = now.history } in s) plays.workload ∙ ap (λ h. let s : Simulation = record { workload = start.workload; history = h } in s) plays.history
+    ap (λ w. let s : Simulation = record { workload = w; history = now.history } in s) plays.workload
+    ∙ ap (λ h. let s : Simulation = record { workload = start.workload; history = h } in s) plays.history
 
 -- a step of an actor is its turn
 idle_turn : (w : Workload) (h : List Event) (a : Actor) → next w h a ≡ None → h ≡ play w h (a ∷ [])
@@ -203,34 +242,46 @@ turn_of a old new Idle (none, same) = record {
   history = ap (λ (v : Simulation). v.history) same ∙ idle_turn old.workload old.history a none;
 }
 
-pub plays_then : (start old new : Simulation) (xs ys : List Actor) → Plays start old xs → Plays old new ys → Plays start new (xs ++ ys)
+pub plays_then : (start old new : Simulation) (xs ys : List Actor) → Plays start old xs → Plays old new ys
+    → Plays start new (xs ++ ys)
 plays_then start old new xs ys p q = record {
   workload = q.workload ∙ p.workload;
-  history = q.history ∙ ap (λ (w : Workload). play w old.history ys) p.workload ∙ ap (λ (h : List Event). play start.workload h ys) p.history
+  history = q.history ∙ ap (λ (w : Workload). play w old.history ys) p.workload
+      ∙ ap (λ (h : List Event). play start.workload h ys) p.history
       ∙ sym (play-append start.workload start.history xs ys);
 }
 
 -- one turn more
-pub plays_step : (start old new : Simulation) (xs : List Actor) (a : Actor) (s : Step) → Plays start old xs → StepsTo a old new s → Plays start new (xs ++ a ∷ [])
+pub plays_step : (start old new : Simulation) (xs : List Actor) (a : Actor) (s : Step) → Plays start old xs
+    → StepsTo a old new s → Plays start new (xs ++ a ∷ [])
 plays_step start old new xs a s p step = plays_then start old new xs (a ∷ []) p (turn_of a old new s step)
 
 -- the actors of one line more
 pub lines_more : (xs : List Go) (i : ℕ) (g : Go) → slice_get xs i ≡ Some g
-    → flat_map (λ (x : Go). replicate x.times x.actor) (take i xs) ++ replicate g.times g.actor ≡ flat_map (λ (x : Go). replicate x.times x.actor) (take (i + 1) xs)
+    → flat_map (λ (x : Go). replicate x.times x.actor) (take i xs) ++ replicate g.times g.actor
+    ≡ flat_map (λ (x : Go). replicate x.times x.actor) (take (i + 1) xs)
 lines_more xs i g at =
-    flat_map_more (λ (x : Go). replicate x.times x.actor) [] (take i xs) g ∙ ap (flat_map (λ (x : Go). replicate x.times x.actor)) (sym (take_at_some xs i g at))
+    flat_map_more (λ (x : Go). replicate x.times x.actor) [] (take i xs) g
+    ∙ ap (flat_map (λ (x : Go). replicate x.times x.actor)) (sym (take_at_some xs i g at))
 
 -- an actor without a next event has none in the turns that are left
-pub plays_idle : (start old new : Simulation) (a : Actor) (done times : ℕ) → done ≤ times → Plays start old (replicate done a) → StepsTo a old new Idle → Plays start new (replicate times a)
+pub plays_idle : (start old new : Simulation) (a : Actor) (done times : ℕ) → done ≤ times
+    → Plays start old (replicate done a) → StepsTo a old new Idle → Plays start new (replicate times a)
 plays_idle start old new a done times within plays (none, same) =
-    subst (Plays start new) (replicate-append-replicate done (times - done) a ∙ ap (λ n. replicate n a) (omega (arith, within))) (plays_then start old new (replicate done a) (replicate (times - done) a) plays (record {
+    subst (Plays start new) (replicate-append-replicate done (times - done) a
+    ∙ ap (λ n. replicate n a) (omega (arith, within)))
+    (plays_then start old new (replicate done a) (replicate (times - done) a) plays (record {
       workload = ap (λ (v : Simulation). v.workload) same;
       history = ap (λ (v : Simulation). v.history) same ∙ sym (stays (times - done));
     }))
   where
     stays : (n : ℕ) → play old.workload old.history (replicate n a) ≡ old.history
     stays zero = refl
-    stays (suc n) = ap (λ o. elim o [ None ↦ play old.workload old.history (replicate n a) | Some e ↦ play old.workload (old.history ▹ e) (replicate n a) ]) none ∙ stays n
+    stays (suc n) = ap (λ o. elim o [
+      | None ↦ play old.workload old.history (replicate n a)
+      | Some e ↦
+          play old.workload (old.history ▹ e) (replicate n a)
+    ]) none ∙ stays n
 
 -- ---- draining
 -- what is left to drain, from here on and from the start
@@ -252,11 +303,14 @@ drains_on start old new i d (e, is, appends) = on d.turns d.same d.enough
     history : new.history ≡ old.history ▹ e
     history = ap (λ (s : Simulation). s.history) appends.appended
 
-    one : (n : ℕ) (o : Option Event) → o ≡ Some e → (elim o [ None ↦ old.history | Some x ↦ drained_for n start.workload (old.history ▹ x) ]) ≡ drained_for n start.workload (old.history ▹ e)
+    one : (n : ℕ) (o : Option Event) → o ≡ Some e
+        → (elim o [ None ↦ old.history | Some x ↦ drained_for n start.workload (old.history ▹ x) ])
+        ≡ drained_for n start.workload (old.history ▹ e)
     one n None eq = absurd (cc)
     one n (Some x) eq = let same : x ≡ e = cc in ap (λ y. drained_for n start.workload (old.history ▹ y)) same
 
-    on : (n : ℕ) → drained_for n start.workload old.history ≡ drain start.workload start.history → bound start.workload ≤ length old.history + n → Drains start new
+    on : (n : ℕ) → drained_for n start.workload old.history ≡ drain start.workload start.history
+        → bound start.workload ≤ length old.history + n → Drains start new
     on zero same enough = let ends = ap bound d.workload in absurd (omega (arith, appends.place, appends.below, ends))
     on (suc n) same enough = record {
       workload = ap (λ (s : Simulation). s.workload) appends.appended ∙ d.workload;
@@ -265,19 +319,25 @@ drains_on start old new i d (e, is, appends) = on d.turns d.same d.enough
       enough = let more = ap length history in omega (arith, more);
     }
 
-pub drains_end : (start old new : Simulation) → Drains start old → TurnsTo old new Idle → new ≡ (let s : Simulation = record { workload = start.workload; history = drain start.workload start.history } in s)
+pub drains_end : (start old new : Simulation) → Drains start old → TurnsTo old new Idle
+    → new ≡ (let s : Simulation = record { workload = start.workload; history = drain start.workload start.history } in
+    s)
 drains_end start old new d (drained, same) =
     same ∙ ap (λ (w : Workload). let s : Simulation = record { workload = w; history = old.history } in s) d.workload
-    ∙ ap (λ (h : List Event). let s : Simulation = record { workload = start.workload; history = h } in s) (sym (stays d.turns) ∙ d.same)
+    ∙ ap (λ (h : List Event). let s : Simulation = record { workload = start.workload; history = h } in
+    s) (sym (stays d.turns) ∙ d.same)
   where
-    by_drained : (b : Bool) → b ≡ true → (let nothing : Option Event = None in if b then nothing else first_next old.workload old.history (turn_order old.workload)) ≡ None
+    by_drained : (b : Bool) → b ≡ true → (let nothing : Option Event = None in
+        if b then nothing else first_next old.workload old.history (turn_order old.workload)) ≡ None
     by_drained true e = refl
     by_drained false e = absurd (cc)
 
     none : turn start.workload old.history ≡ None
-    none = ap (λ (w : Workload). turn w old.history) (sym d.workload) ∙ by_drained (is_drained old.workload old.history) drained
+    none = ap (λ (w : Workload). turn w old.history) (sym d.workload)
+        ∙ by_drained (is_drained old.workload old.history) drained
 
-    by_turn : (n : ℕ) (o : Option Event) → o ≡ None → (elim o [ None ↦ old.history | Some x ↦ drained_for n start.workload (old.history ▹ x) ]) ≡ old.history
+    by_turn : (n : ℕ) (o : Option Event) → o ≡ None
+        → (elim o [ None ↦ old.history | Some x ↦ drained_for n start.workload (old.history ▹ x) ]) ≡ old.history
     by_turn n None e = refl
     by_turn n (Some x) e = absurd (cc)
 

@@ -13,11 +13,27 @@ use Rattle.split_core.specs.declared.note.clients.Clients.{Clients}
 
 -- how far process p has come
 abbrev pub client_of : Workload → List Event → ℕ → Client
-client_of w h p = record { returned = returned h p; entered = is_entered h p; admitted = is_admitted h p; file = bound_file w h p; moved = moved h p }
+client_of w h p = record {
+  returned = returned h p;
+  entered = is_entered h p;
+  admitted = is_admitted h p;
+  file = bound_file w h p;
+  moved = moved h p;
+}
 
--- what decides the next event of process p that has come so far, with this call under way or next; each call is admitted
+-- what decides the next event of process p that has come so far, with this call under way or next; each call is
+-- admitted
 abbrev pub seen : Client → Pid → Option Call → ClientState
-seen c p call = record { by = p; number = c.returned; call = call; entered = c.entered; may_admit = true; admitted = c.admitted; file = c.file; moved = c.moved }
+seen c p call = record {
+  by = p;
+  number = c.returned;
+  call = call;
+  entered = c.entered;
+  may_admit = true;
+  admitted = c.admitted;
+  file = c.file;
+  moved = c.moved;
+}
 
 pub record ClientsStand (w : Workload) (c : Clients) (h : List Event) : Type 0 where
   pub processes : length c.clients.items ≡ length w.procs

@@ -23,4 +23,5 @@ IsActor n _ = Unit {0}
 
 pub record CountsStand (w : Workload) (c : Counts) (h : List Event) : Type 0 where
   pub actors : length c.made.items ≡ length w.procs + 5
-  pub made_are : (a : Actor) → IsActor (length w.procs) a → slice_index c.made.items (place_of (length w.procs) a) ≡ made h a
+  pub made_are : (a : Actor) → IsActor (length w.procs) a
+      → slice_index c.made.items (place_of (length w.procs) a) ≡ made h a

@@ -1,6 +1,7 @@
 -- What is known of an event that comes next in a legal history, by its kind: its numbers are those of the workload, and
 -- what it adds up fits.
-use Rattle.std.specs.Prelude.{◌≡◌, ℕ, ◌+◌, ◌^◌, ◌<◌, ◌≤◌, List, [], ◌∷◌, ◌++◌, length, drop, remove, slice_get, Some, Bool, true, not, ◌&&◌, IsTrue, nat_lt}
+use Rattle.std.specs.Prelude.{◌≡◌, ℕ, ◌+◌, ◌^◌, ◌<◌, ◌≤◌, List, [], ◌∷◌, ◌++◌, length, drop, remove, slice_get, Some}
+use Rattle.std.specs.Prelude.{Bool, true, not, ◌&&◌, IsTrue, nat_lt}
 use Rattle.std.specs.List.{list_any}
 use Rattle.std.specs.Option.{option_map}
 use Rattle.split_types.specs.declared.ids.Pid.{Pid}
@@ -38,7 +39,8 @@ pub record ClientFits (w : Workload) (h : List Event) (p : Pid) : Type 0 where
 
 -- the files that are there are the preset ones
 abbrev pub NamesArePreset : Workload → List Event → Type 0
-NamesArePreset w h = (name : List ℕ) → live_named w h name ≡ option_map (λ s. record { 0 = s }) (file_named w.files name)
+NamesArePreset w h = (name : List ℕ) → live_named w h name
+    ≡ option_map (λ s. record { 0 = s }) (file_named w.files name)
 
 -- some bytes of a page of a preset file, which is there
 pub record PutFits (w : Workload) (h : List Event) (by : Pid) (s : Serial) (g from to : ℕ) : Type 0 where
@@ -74,7 +76,8 @@ pub record SendFits (w : Workload) (h : List Event) (id : ReqId) (cost : ℕ) : 
 
 -- the buffers that are still to be written once a request is done are those that it doesn't write
 abbrev pub Frees : List Event → Event → Request → Type 0
-Frees h e r = (b : Buf) → list_any (λ q. covers q b) (unfinished (h ▹ e)) ≡ (not (covers r b) && list_any (λ q. covers q b) (unfinished h))
+Frees h e r = (b : Buf) → list_any (λ q. covers q b) (unfinished (h ▹ e))
+    ≡ (not (covers r b) && list_any (λ q. covers q b) (unfinished h))
 
 -- one of the requests in flight, for a run of pages, which is done well
 pub record DoneFits (w : Workload) (h : List Event) (k : ℕ) (id : ReqId) (ok : Bool) : Type 0 where

@@ -1,5 +1,6 @@
 -- What the pages that are kept have to do with a history.
-use Rattle.std.specs.Prelude.{◌≡◌, ℕ, ◌+◌, ◌<◌, ◌≤◌, List, [], ◌∷◌, length, slice_index_or, Bool, false, true, ◌&&◌, nat_le, nat_lt, Option, Some, None, if◌then◌else◌}
+use Rattle.std.specs.Prelude.{◌≡◌, ℕ, ◌+◌, ◌<◌, ◌≤◌, List, [], ◌∷◌, length, slice_index_or, Bool, false, true, ◌&&◌}
+use Rattle.std.specs.Prelude.{nat_le, nat_lt, Option, Some, None, if◌then◌else◌}
 use Rattle.split_types.specs.declared.ids.Serial.{Serial}
 use Rattle.split_types.specs.declared.buf.Buf.TheVariants as buf
 use Rattle.split_types.specs.declared.workload.Workload.{Workload}
@@ -51,6 +52,8 @@ ready_key w h s g = if is_ready w h (buf.Page s g) then Some (page_index w s.0 g
 pub record PagesStand (w : Workload) (p : Pages) (h : List Event) : Type 0 where
   pub pages : length p.pages.items ≡ preset_pages w
   pub places : preset_pages w ≤ length p.ready
-  pub pages_are : (s : Serial) (g : ℕ) → s.0 < length w.files → g < pages_in w s.0 → page_at p.pages.items (page_index w s.0 g) ≡ page_of w h s g
-  pub ready_are : (s : Serial) (g : ℕ) → s.0 < length w.files → g < pages_in w s.0 → key_at p.ready (page_index w s.0 g) ≡ ready_key w h s g
+  pub pages_are : (s : Serial) (g : ℕ) → s.0 < length w.files → g < pages_in w s.0
+      → page_at p.pages.items (page_index w s.0 g) ≡ page_of w h s g
+  pub ready_are : (s : Serial) (g : ℕ) → s.0 < length w.files → g < pages_in w s.0
+      → key_at p.ready (page_index w s.0 g) ≡ ready_key w h s g
   pub others : (i : ℕ) → preset_pages w ≤ i → key_at p.ready i ≡ None

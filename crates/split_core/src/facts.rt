@@ -2,7 +2,6 @@
 ghost use Rattle.std.specs.Prelude.{◌≡◌, ◌<◌, List, map, ◌∷◌, [], IfOk, if◌then◌else◌};
 ghost use Rattle.split_types.specs.History.{adds};
 ghost use Rattle.split_types.specs.Blame.{tag};
-ghost use Rattle.split_types.specs.Share.{share_of};
 ghost use Rattle.split_types.specs.declared.workload.Workload.{Workload};
 ghost use Rattle.split_types.specs.declared.event.Event.{Event};
 ghost use Rattle.split_types.specs.Accepted.{IsAccepted};
@@ -16,27 +15,14 @@ use cause_set::{Causes, share_of};
 use split_types::{Facts, List, Pid, ReqFact, ReqId, ReqState};
 use std::alloc::{AllocError, Global};
 
-/// Some processes, each with its share of a cost.
-fn shares_for(
-    alloc: Global,
-    cost: u64,
-    tag: &Causes,
-    members: &[Pid],
-) -> Result<Vec<(Pid, u64)>, AllocError>
-    ensures { IfOk result (λ v. v.items ≡ map (λ p. (p, share_of cost tag.now p.0)) members.now) }
-{
-    members
-        .iter()
-        .map(|p| (*p, share_of(cost, tag, *p)))
-        .collect(alloc)
-}
-
 /// The processes of a tag, each with its share of a cost.
 fn shares_of(alloc: Global, cost: u64, tag: &Causes) -> Result<List<(Pid, u64)>, AllocError>
     ensures { IfOk result (λ l. l ≡ shares_of cost (tag.now ∷ []) tag.now) }
 {
-    let members = tag.to_list(alloc)?;
-    let shares = shares_for(alloc, cost, tag, members.as_slice())?;
+    let mut shares = Vec::with_capacity(alloc, tag.len() as usize)?;
+    for p in tag.iter() {
+        shares.push((p, share_of(cost, tag, p)))?;
+    }
     Ok(List::from_vec(shares))
 }
 
@@ -52,7 +38,8 @@ fn shown_cost(entry: &Entry) -> u64
 
 /// What is shown of a request.
 fn request_fact(alloc: Global, entry: &Entry) -> Result<ReqFact, AllocError>
-    ensures { (w : Workload) (h : List Event) → IsAccepted w → IsEntry h entry.now.request.id.0 entry.now → IfOk result (λ f. f ≡ request_fact w h entry.now.request) }
+    ensures { (w : Workload) (h : List Event) → IsAccepted w → IsEntry h entry.now.request.id.0 entry.now
+        → IfOk result (λ f. f ≡ request_fact w h entry.now.request) }
 {
     let cost = shown_cost(entry);
     let shares = shares_of(alloc, cost, &entry.tag)?;
@@ -66,7 +53,8 @@ fn request_fact(alloc: Global, entry: &Entry) -> Result<ReqFact, AllocError>
 
 /// What is shown of each of some requests.
 fn request_facts(alloc: Global, entries: &[Entry]) -> Result<Vec<ReqFact>, AllocError>
-    ensures { (w : Workload) (h : List Event) → IsAccepted w → AreEntries h entries.now → IfOk result (λ v. v.items ≡ map (λ x. request_fact w h x.request) entries.now) }
+    ensures { (w : Workload) (h : List Event) → IsAccepted w → AreEntries h entries.now
+        → IfOk result (λ v. v.items ≡ map (λ x. request_fact w h x.request) entries.now) }
 {
     let mut facts = Vec::with_capacity(alloc, entries.len())?;
     for entry in entries {

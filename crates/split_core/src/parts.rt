@@ -22,7 +22,7 @@ use crate::note::time::Time;
 use crate::plan::Plan;
 use cause_set::Causes;
 use hook_events::History;
-use split_types::{Call, Event, Pid, Serial, Workload};
+use split_types::{Call, Event, Pid, Serial, Workload, actor_of};
 use std::alloc::{AllocError, Global};
 
 /// The first block of the disk that holds data.
@@ -172,13 +172,14 @@ impl Parts {
         requires room { HasRoom self.old }
         ensures { PartsStand w.now self.new (h.now.events ▹ e.now) }
     {
-        self.clients.note(w, plan, h, e, given);
+        let actor = actor_of(e);
+        self.clients.note(w, plan, h, actor, e, given);
         self.pages.note(w, h, e, given);
         self.book.note(w, h, e, given);
         self.flight.note(w, h, e);
         self.service.note(w, h, e);
         self.time.note(w, h, e, given);
         self.money.note(w, h, e, given);
-        self.counts.note(w, h, e);
+        self.counts.note(w, h, actor, e);
     }
 }

@@ -1,8 +1,10 @@
 //! What the workload alone fixes.
-ghost use Rattle.std.specs.Prelude.{◌≡◌, ℕ, ◌+◌, ◌<◌, ◌≤◌, ◌^◌, ◌++◌, length, map, sum_by, slice_get, slice_index, slice_index_or, replicate, take, Some, [], IfOk, OnOk};
+ghost use Rattle.std.specs.Prelude.{◌≡◌, ℕ, ◌+◌, ◌<◌, ◌≤◌, ◌^◌, ◌++◌, length, map, sum_by, slice_get, slice_index};
+ghost use Rattle.std.specs.Prelude.{slice_index_or, replicate, take, Some, [], IfOk, OnOk};
 ghost use Rattle.std.specs.Option.{option_map, option_copied};
 ghost use Rattle.split_types.specs.Parents.{pages_of};
-ghost use Rattle.split_types.specs.Workloads.{calls_of, file_named, pages_in, page_index, pages_from, preset_pages, all_pages};
+ghost use Rattle.split_types.specs.Workloads.{calls_of, file_named, pages_in, page_index, pages_from, preset_pages};
+ghost use Rattle.split_types.specs.Workloads.{all_pages};
 ghost use Rattle.split_types.specs.Accepted.{IsAccepted};
 ghost use Rattle.split_core.specs.Plans.{ArePlaces, buf_of, PlanStands};
 
@@ -46,7 +48,8 @@ fn no_calls(alloc: Global, n: usize) -> Result<Vec<List<u32>>, AllocError>
 fn places_of_calls(alloc: Global, w: &Workload) -> Result<Vec<List<u32>>, AllocError>
     requires { IsAccepted w.now }
     ensures callers { IfOk result (λ v. length v.items ≡ length w.now.procs) }
-    ensures calls { IfOk result (λ v. (i : ℕ) → i < length w.now.procs → ArePlaces w.now.calls (i + 1) (slice_index_or v.items i [])) }
+    ensures calls { IfOk result (λ v. (i : ℕ) → i < length w.now.procs
+        → ArePlaces w.now.calls (i + 1) (slice_index_or v.items i [])) }
 {
     let mut calls = no_calls(alloc, w.procs.len())?;
     for (i, call) in w.calls.as_slice().iter().enumerate() {
@@ -57,7 +60,8 @@ fn places_of_calls(alloc: Global, w: &Workload) -> Result<Vec<List<u32>>, AllocE
 
 /// Appends the pages of one file.
 fn add_file(pages: &mut Vec<FilePage>, serial: u32, count: u32) -> Result<(), AllocError>
-    ensures { OnOk result (map buf_of pages.new.items ≡ map buf_of pages.old.items ++ pages_of (record { 0 = serial }) 0 count) }
+    ensures { OnOk result (map buf_of pages.new.items ≡ map buf_of pages.old.items
+        ++ pages_of (record { 0 = serial }) 0 count) }
 {
     for page in 0..count {
         pages.push(FilePage {
@@ -84,7 +88,8 @@ fn pages_of_files(alloc: Global, files: &[Preset]) -> Result<Vec<FilePage>, Allo
 fn first_places(alloc: Global, files: &[Preset]) -> Result<Vec<u32>, AllocError>
     requires { sum_by (λ f. f.pages) files.now < 2 ^ 32 }
     ensures files { IfOk result (λ v. length v.items ≡ length files.now) }
-    ensures firsts { IfOk result (λ v. (s : ℕ) → s < length files.now → slice_index v.items s ≡ sum_by (λ f. f.pages) (take s files.now)) }
+    ensures firsts { IfOk result (λ v. (s : ℕ) → s < length files.now
+        → slice_index v.items s ≡ sum_by (λ f. f.pages) (take s files.now)) }
 {
     let mut places = Vec::new(alloc);
     let mut place = 0u32;

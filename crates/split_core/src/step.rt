@@ -23,9 +23,9 @@ pub enum Step {
 
 impl Core {
     /// Makes an event that comes next, and says its place.
-    fn make(&mut self, e: Event) -> Result<u32, AllocError>
-        requires { next self.old.workload self.old.history (maker e) ≡ Some e }
-        ensures ok { IfOk result (λ i. Appends self.old self.new e i) }
+    fn make(&mut self, e: &Event) -> Result<u32, AllocError>
+        requires { next self.old.workload self.old.history (maker e.now) ≡ Some e.now }
+        ensures ok { IfOk result (λ i. Appends self.old self.new e.now i) }
         ensures err { OnErr result (self.new ≡ self.old) }
     {
         let place = self.history.len() as u32;
@@ -33,10 +33,10 @@ impl Core {
         self.parts.room()?;
         let given = self
             .parts
-            .given(&self.workload, &self.plan, &self.history, &e);
+            .given(&self.workload, &self.plan, &self.history, e);
         self.parts
-            .note(&self.workload, &self.plan, &self.history, &e, &given);
-        let _ = self.history.push(e);
+            .note(&self.workload, &self.plan, &self.history, e, &given);
+        let _ = self.history.push(*e);
         Ok(place)
     }
 
@@ -49,7 +49,7 @@ impl Core {
     {
         match self.next(a) {
             None => Ok(Step::Idle),
-            Some(e) => Ok(Step::Made(self.make(e)?)),
+            Some(e) => Ok(Step::Made(self.make(&e)?)),
         }
     }
 
@@ -98,7 +98,7 @@ impl Core {
         }
         match self.first_next() {
             None => Ok(Step::Idle),
-            Some(e) => Ok(Step::Made(self.make(e)?)),
+            Some(e) => Ok(Step::Made(self.make(&e)?)),
         }
     }
 
@@ -109,7 +109,10 @@ impl Core {
         times: u32,
         steps: &mut Steps<L>,
     ) -> Result<(), AllocError>
-        ensures ok { OnOk result (self.new ≡ record { workload = self.old.workload; history = play self.old.workload self.old.history (replicate times actor) }) }
+        ensures ok { OnOk result (self.new ≡ record {
+          workload = self.old.workload;
+          history = play self.old.workload self.old.history (replicate times actor);
+        }) }
         ensures workload { self.new.workload ≡ self.old.workload }
     {
         for _turn in 0..times {
@@ -123,7 +126,10 @@ impl Core {
     /// Lets the actors of the workload's `go` lines act in turn, each as often as its line says. Where memory
     /// runs out some turns have been taken.
     pub fn play<L: Ledger>(&mut self, steps: &mut Steps<L>) -> Result<(), AllocError>
-        ensures ok { OnOk result (self.new ≡ record { workload = self.old.workload; history = play self.old.workload self.old.history (go_actors self.old.workload) }) }
+        ensures ok { OnOk result (self.new ≡ record {
+          workload = self.old.workload;
+          history = play self.old.workload self.old.history (go_actors self.old.workload);
+        }) }
         ensures workload { self.new.workload ≡ self.old.workload }
     {
         for i in 0..self.workload.go.len() {
@@ -136,7 +142,10 @@ impl Core {
     /// Drains the history: turn after turn, as long as it isn't drained. Where memory runs out some turns
     /// have been taken.
     pub fn drain<L: Ledger>(&mut self, steps: &mut Steps<L>) -> Result<(), AllocError>
-        ensures ok { OnOk result (self.new ≡ record { workload = self.old.workload; history = drain self.old.workload self.old.history }) }
+        ensures ok { OnOk result (self.new ≡ record {
+          workload = self.old.workload;
+          history = drain self.old.workload self.old.history;
+        }) }
         ensures workload { self.new.workload ≡ self.old.workload }
     {
         'turns: loop {

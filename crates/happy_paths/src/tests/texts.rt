@@ -5,7 +5,7 @@ use trace_text::print_event;
 use workload_reader::{read_workload, write_workload};
 
 /// One process overwrites the one page of a file; writeback has a turn when it has nothing to do.
-const ONE: &str =
+pub(super) const ONE: &str =
     "splitload 1\ndevice 1024\ncache 64\ndepth 1\nsched fifo\naccount 1 0 0\nproc 1 1 0\n\
     file a 1 65\ncall 1 write a 0 4096 66\ngo c1 1\ngo wb 1\nend\n";
 

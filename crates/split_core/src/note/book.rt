@@ -16,9 +16,9 @@ use std::alloc::{AllocError, Global};
 /// A request, the processes to blame for it, what it costs (0 until it is sent), and how far it has come.
 #[derive(Clone, Copy, Debug)]
 pub(crate) struct Entry {
-    pub(crate) request: Request,
     pub(crate) tag: Causes,
     pub(crate) cost: u64,
+    pub(crate) request: Request,
     pub(crate) state: ReqState,
 }
 
@@ -65,9 +65,9 @@ impl Book {
     {
         match *e {
             Event::Add { req, .. } => self.entries.push_reserved(Entry {
-                request: req,
                 tag: given.tag,
                 cost: 0,
+                request: req,
                 state: ReqState::Queued,
             }),
             Event::Send { id, cost } => self.entries[id.0 as usize].cost = cost,

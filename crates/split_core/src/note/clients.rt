@@ -1,5 +1,6 @@
 //! How far each process has come.
-ghost use Rattle.std.specs.Prelude.{◌≡◌, ◌≢◌, ℕ, ◌+◌, ◌-◌, ◌<◌, ◌≤◌, ◌^◌, List, [], length, slice_get, Some, IfOk, IsTrue, IsFalse};
+ghost use Rattle.std.specs.Prelude.{◌≡◌, ◌≢◌, ℕ, ◌+◌, ◌-◌, ◌<◌, ◌≤◌, ◌^◌, List, [], length, slice_get, Some, IfOk};
+ghost use Rattle.std.specs.Prelude.{IsTrue, IsFalse};
 ghost use Rattle.split_types.specs.declared.workload.Workload.{Workload};
 ghost use Rattle.split_core.specs.declared.note.clients.Client.{Client};
 ghost use Rattle.split_types.specs.declared.actor.Actor.TheVariants as actor;
@@ -15,7 +16,7 @@ ghost use Rattle.split_core.specs.Clients.{client_of, ClientsStand};
 use crate::parts::Given;
 use crate::plan::Plan;
 use hook_events::History;
-use split_types::{Actor, Event, Pid, Serial, Workload, actor_of};
+use split_types::{Actor, Event, Pid, Serial, Workload};
 use std::alloc::{AllocError, Global};
 
 /// How far a process has come.
@@ -91,8 +92,10 @@ fn finished_from(w: &Workload, plan: &Plan, clients: &[Client], known: u32) -> u
     requires known { known ≤ length w.now.procs }
     ensures least { known ≤ result }
     ensures most { result ≤ length w.now.procs }
-    ensures finished { (i : ℕ) (x : Client) → known ≤ i → i < result → slice_get clients.now i ≡ Some x → x.returned ≡ length (calls_of w.now (i + 1)) }
-    ensures left { (x : Client) → slice_get clients.now result ≡ Some x → x.returned ≢ length (calls_of w.now (result + 1)) }
+    ensures finished { (i : ℕ) (x : Client) → known ≤ i → i < result → slice_get clients.now i ≡ Some x
+        → x.returned ≡ length (calls_of w.now (i + 1)) }
+    ensures left { (x : Client) → slice_get clients.now result ≡ Some x
+        → x.returned ≢ length (calls_of w.now (result + 1)) }
 {
     let n = clients.len() as u32;
     for i in known..n {
@@ -126,17 +129,28 @@ impl Clients {
         &self.clients[(p.0 - 1) as usize]
     }
 
-    /// Takes note of an event.
-    pub(crate) fn note(&mut self, w: &Workload, plan: &Plan, h: &History, e: &Event, given: &Given)
+    /// Takes note of an event that this actor made.
+    pub(crate) fn note(
+        &mut self,
+        w: &Workload,
+        plan: &Plan,
+        h: &History,
+        actor: Actor,
+        e: &Event,
+        given: &Given,
+    )
         requires stands { ClientsStand w.now self.old h.now.events }
         requires plan { PlanStands w.now plan.now }
+        requires made { actor ≡ maker e.now }
         requires fits { Fits w.now h.now.events e.now }
         requires given { IsGiven w.now h.now.events e.now given.now }
         ensures { ClientsStand w.now self.new (h.now.events ▹ e.now) }
     {
-        if let Actor::Client(by) = actor_of(e) {
+        if let Actor::Client(by) = actor {
             self.clients[(by.0 - 1) as usize].note(w, h, by, e, given);
-            self.finished = finished_from(w, plan, &self.clients, self.finished);
+            if let Event::Ret { .. } = *e {
+                self.finished = finished_from(w, plan, &self.clients, self.finished);
+            }
         }
     }
 }

@@ -1,11 +1,12 @@
 //! The events that each actor made.
 ghost use Rattle.std.specs.Prelude.{◌≡◌, ◌+◌, ◌^◌, ◌<◌, ◌≤◌, [], length, IfOk};
 ghost use Rattle.split_types.specs.History.{◌▹◌};
+ghost use Rattle.split_types.specs.Hooks.{maker};
 ghost use Rattle.split_core.specs.Fits.{Fits};
 ghost use Rattle.split_core.specs.Counts.{place_of, IsActor, CountsStand};
 
 use hook_events::History;
-use split_types::{Actor, Event, Workload, actor_of};
+use split_types::{Actor, Event, Workload};
 use std::alloc::{AllocError, Global};
 
 /// The actors that are no processes.
@@ -43,13 +44,14 @@ impl Counts {
         Ok(Counts { made })
     }
 
-    /// Takes note of an event.
-    pub(crate) fn note(&mut self, w: &Workload, h: &History, e: &Event)
+    /// Takes note of an event that this actor made.
+    pub(crate) fn note(&mut self, w: &Workload, h: &History, actor: Actor, e: &Event)
         requires stands { CountsStand w.now self.old h.now.events }
+        requires made { actor ≡ maker e.now }
         requires fits { Fits w.now h.now.events e.now }
         ensures { CountsStand w.now self.new (h.now.events ▹ e.now) }
     {
-        let place = place_of(w.procs.len(), actor_of(e));
+        let place = place_of(w.procs.len(), actor);
         self.made[place] += 1;
     }
 }

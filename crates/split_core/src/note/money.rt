@@ -21,8 +21,10 @@ pub(crate) struct Money {
 /// Bills a cost to each process of a tag, by its share.
 fn bill(billed: &mut [u64], cost: u64, tag: &Causes)
     requires payers { (p : ℕ) → IsTrue (has tag.now p) → (1 ≤ p) × (p ≤ length billed.old) }
-    requires room { (i : ℕ) → i < length billed.old → slice_index billed.old i + share_of cost tag.now (i + 1) < 2 ^ 64 }
-    ensures { (i : ℕ) → i < length billed.old → slice_index billed.new i ≡ slice_index billed.old i + share_of cost tag.now (i + 1) }
+    requires room { (i : ℕ) → i < length billed.old
+        → slice_index billed.old i + share_of cost tag.now (i + 1) < 2 ^ 64 }
+    ensures { (i : ℕ) → i < length billed.old
+        → slice_index billed.new i ≡ slice_index billed.old i + share_of cost tag.now (i + 1) }
 {
     tag.rises();
     for p in tag.iter() {

@@ -1,5 +1,6 @@
 //! The pages of the preset files: the causes of each that is dirty, and which are ready to be served.
-ghost use Rattle.std.specs.Prelude.{◌≡◌, ◌≢◌, false, ℕ, ◌+◌, ◌<◌, ◌≤◌, ◌^◌, [], length, map, slice_set, Some, None, IfOk, if◌then◌else◌};
+ghost use Rattle.std.specs.Prelude.{◌≡◌, ◌≢◌, false, ℕ, ◌+◌, ◌<◌, ◌≤◌, ◌^◌, [], length, map, slice_set, Some, None};
+ghost use Rattle.std.specs.Prelude.{IfOk, if◌then◌else◌};
 ghost use Rattle.std.specs.List.{range_with_len};
 ghost use Rattle.split_types.specs.History.{◌▹◌};
 ghost use Rattle.split_types.specs.Sets.{union_of};
@@ -7,7 +8,8 @@ ghost use Rattle.split_types.specs.Workloads.{preset_pages};
 ghost use Rattle.split_types.specs.Accepted.{IsAccepted};
 ghost use Rattle.split_core.specs.Fits.{Fits};
 ghost use Rattle.split_core.specs.Givens.{IsGiven};
-ghost use Rattle.split_core.specs.Pages.{PagesStand, page_at, key_at, is_within, clean_page, taken_page, put_page, released_page, released_key};
+ghost use Rattle.split_core.specs.Pages.{PagesStand, page_at, key_at, is_within, clean_page, taken_page, put_page};
+ghost use Rattle.split_core.specs.Pages.{released_page, released_key};
 
 use crate::parts::Given;
 use cause_set::Causes;
@@ -99,12 +101,14 @@ impl Pages {
         requires small { at < 2 ^ 32 }
         requires first { 1 ≤ by.0 }
         requires last { by.0 ≤ 256 }
-        ensures pages { self.new.pages.items ≡ slice_set self.old.pages.items at (put_page by.0 (page_at self.old.pages.items at)) }
-        ensures ready { self.new.ready ≡ (if (page_at self.old.pages.items at).busy then self.old.ready else slice_set self.old.ready at (Some at)) }
+        ensures pages { self.new.pages.items ≡ slice_set self.old.pages.items at
+            (put_page by.0 (page_at self.old.pages.items at)) }
+        ensures ready { self.new.ready ≡ (if (page_at self.old.pages.items at).busy then self.old.ready
+            else slice_set self.old.ready at (Some at)) }
     {
         let page = &mut self.pages[at];
         page.causes = page.causes.union(&Causes::one(by));
-        if !page.busy {
+        if !page.busy && self.ready.key(at) != Some(at as u32) {
             self.ready.set(at, Some(at as u32));
         }
     }
@@ -115,8 +119,10 @@ impl Pages {
         requires places { at + n ≤ length self.old.ready }
         ensures len { length self.new.pages.items ≡ length self.old.pages.items }
         ensures places { length self.new.ready ≡ length self.old.ready }
-        ensures pages { (k : ℕ) → page_at self.new.pages.items k ≡ (if is_within at n k then taken_page else page_at self.old.pages.items k) }
-        ensures ready { (k : ℕ) → key_at self.new.ready k ≡ (if is_within at n k then None else key_at self.old.ready k) }
+        ensures pages { (k : ℕ) → page_at self.new.pages.items k
+            ≡ (if is_within at n k then taken_page else page_at self.old.pages.items k) }
+        ensures ready { (k : ℕ) → key_at self.new.ready k
+            ≡ (if is_within at n k then None else key_at self.old.ready k) }
     {
         for k in 0..n {
             let place = at + k as usize;
@@ -132,14 +138,17 @@ impl Pages {
         requires small { at + n < 2 ^ 32 }
         ensures len { length self.new.pages.items ≡ length self.old.pages.items }
         ensures places { length self.new.ready ≡ length self.old.ready }
-        ensures pages { (k : ℕ) → page_at self.new.pages.items k ≡ (if is_within at n k then released_page (page_at self.old.pages.items k) else page_at self.old.pages.items k) }
+        ensures pages { (k : ℕ) → page_at self.new.pages.items k
+            ≡ (if is_within at n k then released_page (page_at self.old.pages.items k)
+            else page_at self.old.pages.items k) }
         ensures ready { (k : ℕ) → key_at self.new.ready k
-            ≡ (if is_within at n k then released_key k (page_at self.old.pages.items k) (key_at self.old.ready k) else key_at self.old.ready k) }
+            ≡ (if is_within at n k then released_key k (page_at self.old.pages.items k) (key_at self.old.ready k)
+            else key_at self.old.ready k) }
     {
         for k in 0..n {
             let place = at + k as usize;
             self.pages[place].busy = false;
-            if self.pages[place].causes.len() > 0 {
+            if !self.pages[place].causes.is_empty() {
                 self.ready.set(place, Some(place as u32));
             }
         }

@@ -8,4 +8,5 @@ use Rattle.split_core.proofs.facts.request_facts.Given as goal
 
 abbrev pub invariant-loop-entry : goal.invariant-loop-entry
 invariant-loop-entry l =
-    (w : Workload) (h : List Event) → IsAccepted w → AreEntries h l.entries → l.facts.items ≡ map (λ x. request_fact w h x.request) (take l.entry-index l.entries)
+    (w : Workload) (h : List Event) → IsAccepted w → AreEntries h l.entries
+    → l.facts.items ≡ map (λ x. request_fact w h x.request) (take l.entry-index l.entries)

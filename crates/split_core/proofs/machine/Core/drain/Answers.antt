@@ -9,4 +9,5 @@ turns-init g c = drains_start c.args.self.now
 
 pub turns-preserved : goal.turns-preserved
 turns-preserved g c =
-    drains_on c.args.self.now c.turns.self c.finish_turn.new.self c.in-Made._place c.turns.invariant (subst (TurnsTo c.turns.self c.finish_turn.new.self) c.in-Made.is c.in_ok-_place.ensures.ok)
+    drains_on c.args.self.now c.turns.self c.finish_turn.new.self c.in-Made._place c.turns.invariant
+    (subst (TurnsTo c.turns.self c.finish_turn.new.self) c.in-Made.is c.in_ok-_place.ensures.ok)

@@ -8,11 +8,14 @@ use Rattle.split_core.proofs.machine.Core.drained.Goals as goal
 pub returns-then-parts-len : goal.returns-then-parts-len
 returns-then-parts-len c =
     let i = c.self.inside in
-    sym (calls_left i.workload i.plan i.parts i.history.events c.self.invariant (omega (arith, c.len.ensures, c.if-parts-len.true))) ∙ ap (λ (v : Simulation). is_drained v.workload v.history) c.self.view_is
+    sym (calls_left i.workload i.plan i.parts i.history.events c.self.invariant
+    (omega (arith, c.len.ensures, c.if-parts-len.true)))
+    ∙ ap (λ (v : Simulation). is_drained v.workload v.history) c.self.view_is
 
 pub returns : goal.returns
 returns c =
     let i = c.self.inside in
-    drained_by i.workload i.plan i.parts i.history.events c.least.result c.is_none.result c.is_none.ensures c.self.invariant (omega (arith, c.len.ensures, c.if-parts-len.false))
+    drained_by i.workload i.plan i.parts i.history.events c.least.result c.is_none.result c.is_none.ensures
+    c.self.invariant (omega (arith, c.len.ensures, c.if-parts-len.false))
     (sym c.is_empty.ensures ∙ c.if-not-is_empty.false) c.least.ensures.none c.least.ensures.least
     ∙ ap (λ (v : Simulation). is_drained v.workload v.history) c.self.view_is

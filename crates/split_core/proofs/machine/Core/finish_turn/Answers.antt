@@ -5,4 +5,5 @@ use Rattle.split_core.proofs.TurnNotes.{first_comes}
 use Rattle.split_core.proofs.machine.Core.finish_turn.Goals as goal
 
 pub make-requires : goal.make-requires
-make-requires g c = first_comes c.args.self.now.workload c.args.self.now.history (turn_order c.args.self.now.workload) c.in-Some.e (sym c.first_next.ensures.first ∙ c.in-Some.is)
+make-requires g c = first_comes c.args.self.now.workload c.args.self.now.history
+    (turn_order c.args.self.now.workload) c.in-Some.e (sym c.first_next.ensures.first ∙ c.in-Some.is)

@@ -15,19 +15,25 @@ use Rattle.split_core.proofs.machine.Core.make.Goals as goal
 pub overflow_cast-place : goal.overflow_cast-place
 overflow_cast-place c =
     let i = c.self.inside in
-    omega (arith, short i.workload i.history.events c.self.invariant.accepted c.self.invariant.legal, c.len-place.ensures)
+    omega (
+      arith,
+      short i.workload i.history.events c.self.invariant.accepted c.self.invariant.legal,
+      c.len-place.ensures,
+    )
 
 pub given-given-requires-clause-fits : goal.given-given-requires-clause-fits
 given-given-requires-clause-fits c =
     let i = c.self.inside in
-    let comes = ap (λ (v : Simulation). next v.workload v.history (maker c.args.e)) c.self.view_is ∙ c.requires in
-    rw c.room.ensures.events (fits i.workload i.history.events (maker c.args.e) c.args.e c.self.invariant.accepted c.self.invariant.legal comes)
+    let comes = ap (λ (v : Simulation). next v.workload v.history (maker c.args.e.now)) c.self.view_is ∙ c.requires in
+    rw c.room.ensures.events (fits i.workload i.history.events
+    (maker c.args.e.now) c.args.e.now c.self.invariant.accepted c.self.invariant.legal comes)
 
 pub note-requires-clause-fits : goal.note-requires-clause-fits
 note-requires-clause-fits c =
     let i = c.self.inside in
-    let comes = ap (λ (v : Simulation). next v.workload v.history (maker c.args.e)) c.self.view_is ∙ c.requires in
-    rw c.room.ensures.events (fits i.workload i.history.events (maker c.args.e) c.args.e c.self.invariant.accepted c.self.invariant.legal comes)
+    let comes = ap (λ (v : Simulation). next v.workload v.history (maker c.args.e.now)) c.self.view_is ∙ c.requires in
+    rw c.room.ensures.events (fits i.workload i.history.events
+    (maker c.args.e.now) c.args.e.now c.self.invariant.accepted c.self.invariant.legal comes)
 
 abbrev pair : Workload → List Event → Simulation
 pair w h = record { workload = w; history = h }
@@ -42,8 +48,15 @@ returns-clause-ok c =
     let same = ap (λ (v : Simulation). length v.history) c.self.view_is in
     let ends = ap (λ (v : Simulation). bound v.workload) c.self.view_is in
     record {
-      appended = ap (λ l. pair i.workload l) (pushed c.push.result (c.push.ensures.succeeds (omega (arith, c.in_ok-room.ensures.ok))) c.push.ensures.ok ∙ ap (λ h. h ▹ c.args.e) c.room.ensures.events)
-          ∙ ap (λ (v : Simulation). pair v.workload (v.history ▹ c.args.e)) c.self.view_is;
+      appended = ap (λ l. pair i.workload l) (pushed c.push.result
+          (c.push.ensures.succeeds (omega (arith, c.in_ok-room.ensures.ok))) c.push.ensures.ok
+          ∙ ap (λ h. h ▹ c.args.e.now) c.room.ensures.events)
+          ∙ ap (λ (v : Simulation). pair v.workload (v.history ▹ c.args.e.now)) c.self.view_is;
       place = omega (arith, c.len-place.ensures, same);
-      below = omega (arith, stays_below i.workload i.history.events c.self.invariant.accepted c.self.invariant.legal, ends, c.len-place.ensures);
+      below = omega (
+        arith,
+        stays_below i.workload i.history.events c.self.invariant.accepted c.self.invariant.legal,
+        ends,
+        c.len-place.ensures,
+      );
     }

@@ -4,4 +4,5 @@ use Rattle.split_core.proofs.TurnNotes.{comes}
 use Rattle.split_core.proofs.machine.Core.step.Goals as goal
 
 pub make-requires : goal.make-requires
-make-requires g c = comes c.args.self.now.workload c.args.self.now.history c.args.a c.in-Some.e (sym c.next.ensures ∙ c.in-Some.is)
+make-requires g c = comes c.args.self.now.workload c.args.self.now.history c.args.a c.in-Some.e (sym c.next.ensures
+    ∙ c.in-Some.is)

@@ -17,14 +17,18 @@ pub returns-in-Add : goal.returns-in-Add
 returns-in-Add c =
     let fits = rw c.in-Add.is at c.requires.fits.kind in
     let given = rw c.in-Add.is at c.requires.given in
-    rw c.in-Add.is (book_add c.args.w.now c.args.h.now.events c.in-Add.by c.in-Add.req c.args.self.now _ _ fits c.requires.stands c.push_reserved.ensures.items refl given.tag_is refl refl)
+    rw c.in-Add.is (book_add c.args.w.now c.args.h.now.events c.in-Add.by c.in-Add.req c.args.self.now _ _ fits
+    c.requires.stands c.push_reserved.ensures.items refl given.tag_is refl refl)
 
 pub returns-in-Send : goal.returns-in-Send
 returns-in-Send c =
     let fits = rw c.in-Send.is at c.requires.fits.kind in
-    rw c.in-Send.is (book_send c.args.w.now c.args.h.now.events c.in-Send.id c.in-Send.cost c.args.self.now _ c.index_mut.result.now _ fits c.requires.stands c.index_mut.ensures.value refl refl refl refl refl)
+    rw c.in-Send.is (book_send c.args.w.now c.args.h.now.events c.in-Send.id c.in-Send.cost c.args.self.now _
+    c.index_mut.result.now _ fits c.requires.stands c.index_mut.ensures.value refl refl refl refl refl)
 
 pub returns-in-Done : goal.returns-in-Done
 returns-in-Done c =
     let fits = rw c.in-Done.is at c.requires.fits.kind in
-    rw c.in-Done.is (book_done c.args.w.now c.args.h.now.events c.in-Done.k c.in-Done.id c.in-Done.ok c.args.self.now _ c.index_mut-in-Done.result.now _ fits c.requires.stands c.index_mut-in-Done.ensures.value refl refl refl refl refl)
+    rw c.in-Done.is (book_done c.args.w.now c.args.h.now.events c.in-Done.k c.in-Done.id c.in-Done.ok c.args.self.now _
+    c.index_mut-in-Done.result.now _ fits c.requires.stands c.index_mut-in-Done.ensures.value refl refl refl refl
+    refl)

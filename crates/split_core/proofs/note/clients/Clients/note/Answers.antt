@@ -1,26 +1,45 @@
 -- An event moves on the process that makes it.
-use Rattle.std.proofs.Common.{◌-◌, arith, ◌∙◌, ap, sym, slice_get}
+use Rattle.std.proofs.Common.{◌-◌, arith, refl, ◌∙◌, ap, sym, slice_get}
 use Rattle.std.specs.Prelude.{slice_set}
-use Rattle.split_core.proofs.ClientNotes.{clients_by, client_at}
+use Rattle.split_core.proofs.ClientNotes.{clients_by, clients_on, client_at}
 use Rattle.split_core.proofs.note.clients.Clients.note.Goals as goal
 
 pub overflow_sub-by : goal.overflow_sub-by
-overflow_sub-by c = (c.requires.fits.by c.in-Client.by (sym c.in-Client.ensures)).first
+overflow_sub-by c = (c.requires.fits.by c.in-Client.by (sym c.requires.made ∙ c.in-Client.is)).first
 
 pub index_mut-requires : goal.index_mut-requires
 index_mut-requires c =
-    let fits = c.requires.fits.by c.in-Client.by (sym c.in-Client.ensures) in
+    let fits = c.requires.fits.by c.in-Client.by (sym c.requires.made ∙ c.in-Client.is) in
     omega (arith, fits.first, fits.last, c.requires.stands.processes, c.args.self.now.clients.ok.0)
 
 pub note-requires-clause-is : goal.note-requires-clause-is
 note-requires-clause-is c =
-    let fits = c.requires.fits.by c.in-Client.by (sym c.in-Client.ensures) in
-    client_at c.args.w.now c.args.h.now.events c.args.self.now c.in-Client.by c.index_mut.result.now fits c.requires.stands c.index_mut.ensures.value
+    let fits = c.requires.fits.by c.in-Client.by (sym c.requires.made ∙ c.in-Client.is) in
+    client_at c.args.w.now c.args.h.now.events c.args.self.now c.in-Client.by c.index_mut.result.now fits
+    c.requires.stands c.index_mut.ensures.value
 
-pub returns-in-Client : goal.returns-in-Client
-returns-in-Client c =
-    let fits = c.requires.fits.by c.in-Client.by (sym c.in-Client.ensures) in
-    clients_by c.args.w.now c.args.h.now.events c.args.e.now c.in-Client.by c.args.self.now _ fits (sym c.in-Client.ensures) c.requires.stands
-    (ap (slice_set c.args.self.now.clients.items (c.in-Client.by.0 - 1)) c.note.ensures) c.finished_from-self.ensures.most
-    (λ i x low below at. c.finished_from-self.ensures.finished i x low below (ap (λ l. slice_get l i) c.deref.ensures.value ∙ at))
-    (λ x at. c.finished_from-self.ensures.left x (ap (λ l. slice_get l c.finished_from-self.result) c.deref.ensures.value ∙ at))
+pub returns-in-Ret : goal.returns-in-Ret
+returns-in-Ret c =
+    clients_by c.args.w.now c.args.h.now.events c.args.e.now c.in-Client.by c.args.self.now _
+    (record {
+      fits = c.requires.fits.by c.in-Client.by (sym c.requires.made ∙ c.in-Client.is);
+      made = sym c.requires.made ∙ c.in-Client.is;
+      stands = c.requires.stands;
+      items = ap (slice_set c.args.self.now.clients.items (c.in-Client.by.0 - 1)) c.note.ensures;
+    })
+    c.finished_from-self.ensures.most
+    (λ i x low below at. c.finished_from-self.ensures.finished i x low below
+    (ap (λ l. slice_get l i) c.deref.ensures.value ∙ at))
+    (λ x at. c.finished_from-self.ensures.left x
+    (ap (λ l. slice_get l c.finished_from-self.result) c.deref.ensures.value ∙ at))
+
+pub returns-in_default-e : goal.returns-in_default-e
+returns-in_default-e c =
+    clients_on c.args.w.now c.args.h.now.events c.args.e.now c.in-Client.by c.args.self.now _
+    (record {
+      fits = c.requires.fits.by c.in-Client.by (sym c.requires.made ∙ c.in-Client.is);
+      made = sym c.requires.made ∙ c.in-Client.is;
+      stands = c.requires.stands;
+      items = ap (slice_set c.args.self.now.clients.items (c.in-Client.by.0 - 1)) c.note.ensures;
+    })
+    c.in_default-e.not-Ret refl

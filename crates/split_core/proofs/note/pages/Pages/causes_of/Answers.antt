@@ -13,6 +13,8 @@ loop-k-init c = c.none-causes.ensures ∙ sym union-none
 pub loop-k-preserved : goal.loop-k-preserved
 loop-k-preserved c =
     let items = c.args.self.now.pages.items in
-    let read = get_or_read items (c.args.at + c.loop-k.k) c.index.result.now (omega (arith, c.requires, c.loop-k-test.true)) c.index.ensures clean_page in
-    causes_more (λ k. (page_at items k).causes) c.args.at c.loop-k.k c.loop-k.causes c.index.result.now.causes c.union-causes.result
+    let read = get_or_read items (c.args.at + c.loop-k.k) c.index.result.now
+    (omega (arith, c.requires, c.loop-k-test.true)) c.index.ensures clean_page in
+    causes_more (λ k. (page_at items k).causes) c.args.at c.loop-k.k c.loop-k.causes c.index.result.now.causes
+    c.union-causes.result
     c.loop-k.invariant (ap (λ (x : Page). x.causes) read) c.union-causes.ensures

@@ -8,6 +8,9 @@ use Rattle.split_core.proofs.note.pages.Pages.new.Goals as goal
 
 pub returns : goal.returns
 returns c =
-    let made : c.in_ok-pages.pages.items ≡ replicate c.args.n c.clean.result = c.in_ok-pages.ensures.items_if_clones_equal (λ y h. grind (arith, common_steps)) in
-    let items : c.in_ok-pages.pages.items ≡ replicate c.args.n clean_page = made ∙ ap (λ (x : Page). replicate c.args.n x) c.clean.ensures in
-    pages_none c.args.w.now (record { pages = c.in_ok-pages.pages; ready = c.in_ok-ready.ready }) c.args.n c.max.result items c.in_ok-ready.ensures c.requires.pages (omega (arith, c.max.ensures))
+    let made : c.in_ok-pages.pages.items ≡ replicate c.args.n c.clean.result =
+    c.in_ok-pages.ensures.items_if_clones_equal (λ y h. grind (arith, common_steps)) in
+    let items : c.in_ok-pages.pages.items ≡ replicate c.args.n clean_page = made
+    ∙ ap (λ (x : Page). replicate c.args.n x) c.clean.ensures in
+    pages_none c.args.w.now (record { pages = c.in_ok-pages.pages; ready = c.in_ok-ready.ready }) c.args.n c.max.result
+    items c.in_ok-ready.ensures c.requires.pages (omega (arith, c.max.ensures))

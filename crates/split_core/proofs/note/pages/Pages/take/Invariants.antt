@@ -7,6 +7,7 @@ abbrev pub invariant-loop-k : goal.invariant-loop-k
 invariant-loop-k l = record {
   len : length l.self.pages.items ≡ length l.fn.self.pages.items;
   places : length l.self.ready ≡ length l.fn.self.ready;
-  pages : (k : ℕ) → page_at l.self.pages.items k ≡ (if is_within l.at l.k k then taken_page else page_at l.fn.self.pages.items k);
+  pages : (k : ℕ) → page_at l.self.pages.items k
+      ≡ (if is_within l.at l.k k then taken_page else page_at l.fn.self.pages.items k);
   ready : (k : ℕ) → key_at l.self.ready k ≡ (if is_within l.at l.k k then None else key_at l.fn.self.ready k);
 }
