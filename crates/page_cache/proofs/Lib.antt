@@ -1,0 +1,16 @@
+mod ListLaws
+mod SlotLaws
+mod KeptLaws
+mod PinLaws
+mod GuideLaws
+mod StoreLaws
+mod FindLaws
+mod PageLaws
+mod CallLaws
+mod EachLaws
+mod RunLaws
+mod TakeLaws
+mod ChoiceLaws
+mod MoreLaws
+mod WriteLaws
+mod FreeLaws

@@ -1,0 +1,11 @@
+pub mod Bytes
+pub mod Cached
+pub mod Changes
+pub mod Fields
+pub mod Guide
+pub mod Held
+pub mod Kept
+pub mod Keys
+pub mod Pins
+pub mod Pool
+pub mod Steps

@@ -1,0 +1,6 @@
+mod PointerLaws
+mod ImageLaws
+mod UsesLaws
+mod KeyLaws
+mod FilesLaws
+mod PresetLaws

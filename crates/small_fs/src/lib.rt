@@ -1,0 +1,26 @@
+//! A small file system in memory: the files that live, each in one of 256 slots, and the blocks of metadata that they
+//! give.
+//!
+//! Contracts see an [`Fs`] as the file of each slot (its serial, name, size, disk size and the block of each page), the
+//! serial of the next file, and the block where data begins. They say of each change which slot it changes, and that
+//! every other slot is as before. A file is made in the least free slot with the least serial never used. The block of
+//! a buffer of metadata is at any time the spelling of the files as they are then.
+//!
+//! A name and a serial are found in a number of steps that is constant on average. Only `new`, `make` and `room` ask
+//! for memory; a file that is dropped hands out its blocks in the memory of its own map.
+//!
+//! The journal, writeback, the calls of clients and the core stand on this crate.
+#![tactic(auto)]
+
+mod file;
+mod fs;
+mod image;
+mod keys;
+mod mapping;
+mod maps;
+mod uses;
+
+pub use fs::{Fs, MakeFault};
+
+#[cfg(test)]
+mod tests;

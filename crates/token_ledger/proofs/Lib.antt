@@ -1,0 +1,6 @@
+mod KeyLaws
+mod ListLaws
+mod PlaceLaws
+mod StandingLaws
+mod BillLaws
+mod Samples

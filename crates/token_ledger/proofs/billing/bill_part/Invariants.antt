@@ -1,0 +1,6 @@
+-- What is billed so far, and what those bear that are left, are all that the accounts bear.
+use Rattle.token_ledger.proofs.BillLaws.{IsBilling}
+use Rattle.token_ledger.proofs.billing.bill_part.Given as goal
+
+abbrev pub invariant-loop-p : goal.invariant-loop-p
+invariant-loop-p l = IsBilling l.fn.standings l.standings l.owners l.cost l.part l.p-iterator

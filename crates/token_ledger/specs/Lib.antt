@@ -1,0 +1,4 @@
+pub mod Books
+pub mod Codes
+pub mod Places
+pub mod Standings
