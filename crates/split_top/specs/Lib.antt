@@ -3,3 +3,4 @@ pub mod Refusals
 pub mod Replay
 pub mod Answers
 pub mod Outcome
+pub mod Ready

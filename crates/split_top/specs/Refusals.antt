@@ -18,5 +18,5 @@ cause_word cause.After = codes "after"
 cause_word cause.Long = codes "long"
 
 -- refused line, its number and a colon, and the cause
-abbrev pub refusal_text : LineFault → List ℕ
+unfoldable pub refusal_text : LineFault → List ℕ
 refusal_text f = line (codes "refused" ∷ codes "line" ∷ (numeral f.line ++ codes ":") ∷ cause_word f.cause ∷ [])

@@ -11,7 +11,7 @@ use Rattle.split_types.specs.TraceText.{trace_text}
 use Rattle.split_types.specs.ReportText.{report_text}
 
 -- the trace of a history, and the report behind it
-abbrev pub text_of : Workload → List Event → List ℕ
+unfoldable pub text_of : Workload → List Event → List ℕ
 text_of w h = trace_text w h ++ report_text (facts_of w h) w.sched
 
 -- the run of a workload: from no event on the actors of its `go` lines take turns, and then it is drained

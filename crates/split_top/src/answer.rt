@@ -1,10 +1,14 @@
 //! The answer to an input.
-ghost use Rattle.std.specs.Prelude.{◌≡◌, ◌<◌, Err, IfOk, OnOk};
+ghost use Rattle.std.specs.Prelude.{◌≡◌, ◌<◌, [], Err, IfOk, OnOk};
 ghost use Rattle.std.specs.Io.KnownBytes.{IsAtEnd};
 ghost use Rattle.outside.specs.Faults.{Rose};
+ghost use Rattle.sink_printer.specs.Due.{Sent};
 ghost use Rattle.split_types.specs.Accepted.{IsAccepted};
+ghost use Rattle.split_types.specs.FactsOf.{facts_of};
 ghost use Rattle.split_types.specs.Legal.{drain, play, go_actors};
-ghost use Rattle.split_top.specs.Answers.{AnswersTo, Answers};
+ghost use Rattle.workload_reader.specs.Reading.{Reading};
+ghost use Rattle.split_top.specs.Answers.{Writes, WritesAnswer, Replies};
+ghost use Rattle.split_top.specs.Ready.{IsReady};
 ghost use Rattle.split_top.specs.Refusals.{refusal_text};
 ghost use Rattle.split_top.specs.Replay.{text_of, run_of};
 
@@ -12,30 +16,26 @@ use crate::call::Status;
 use crate::refusal::refusal;
 use billing_report::put_report;
 use hook_events::Steps;
-use outside::{InputFault, Source, read_all};
+use outside::{Failed, InputFault, Sink, Source, read_all, write_all};
+use sink_printer::{Page, SinkPrinter};
 use split_core::Core;
-use split_types::Workload;
+use split_types::{Facts, Workload};
 use std::alloc::{AllocError, Global};
 use std::marker::Brand;
 use std::sync::ledger::{Blank, Ledger};
-use trace_text::print_trace;
+use trace_text::put_trace;
 use workload_reader::{Cause, LineFault, ReadWorkload, read_workload};
 
 /// The most bytes that an input may have.
 const LONGEST: usize = 16_777_216;
 
-/// A whole answer, and how the program ends where it is written.
-#[derive(Debug, Drop)]
-pub(crate) struct Output {
-    pub(crate) text: Vec<u8>,
-    pub(crate) status: Status,
-}
-
-/// Why there is no answer.
+/// Why an answer wasn't written as a whole.
 #[derive(Clone, Copy, Debug, PartialEq, Eq)]
 pub(crate) enum Stop {
     /// The source failed.
     Read,
+    /// The sink failed.
+    Write,
     /// There was no memory.
     Memory,
 }
@@ -47,6 +47,16 @@ impl From<AllocError> for Stop {
 
     fn from(_e: AllocError) -> Stop {
         Stop::Memory
+    }
+}
+
+impl From<Failed> for Stop {
+    ghost use Rattle.split_top.specs.declared.answer.Stop.TheVariants.{Write};
+
+    ghost from_gives = { λ _ e. e ≡ Write };
+
+    fn from(_e: Failed) -> Stop {
+        Stop::Write
     }
 }
 
@@ -62,74 +72,117 @@ fn finish<L: Ledger>(core: &mut Core, steps: &mut Steps<L>) -> Result<(), AllocE
     Ok(())
 }
 
-/// The text of all that a core has done: its trace, and the report behind it.
-fn text_of<L: Ledger>(
-    alloc: Global,
+/// Writes all that a core has done: its trace, and the report behind it. It takes no memory.
+fn send<K: Sink, L: Ledger>(
     core: &Core,
+    facts: &Facts,
+    page: &mut Page,
+    sink: &mut K,
     steps: &mut Steps<L>,
-) -> Result<Vec<u8>, AllocError>
-    ensures { IfOk result (λ text. text.items ≡ text_of core.now.workload core.now.history) }
+) -> Result<(), Failed>
+    requires facts { facts.now ≡ facts_of core.now.workload core.now.history }
+    requires page { page.old ≡ [] }
+    ensures { Sent (record { held = K.held; faults = K.faults; room = K.room }) sink.old sink.new
+        (text_of core.now.workload core.now.history) result }
 {
-    let workload = core.workload();
-    let facts = core.facts(alloc)?;
-    let mut text = print_trace(alloc, workload, core.history(), steps)?;
-    put_report(&mut text, &facts, workload.sched)?;
-    Ok(text)
+    let mut out = SinkPrinter::new(sink, page);
+    put_trace(&mut out, core.workload(), core.history(), steps);
+    put_report(&mut out, facts, core.workload().sched);
+    out.finish()
 }
 
-/// The text of the run of a workload: first the turns that its `go` lines ask for, and then those that drain it.
-fn replay<L: Ledger>(alloc: Global, workload: Workload, blank: Blank) -> Result<Vec<u8>, AllocError>
+/// All that is needed to write the run of a workload: the core that has made it, what a report shows of it,
+/// and a page to print on.
+fn prepare<L: Ledger>(
+    alloc: Global,
+    workload: Workload,
+    steps: &mut Steps<L>,
+) -> Result<(Core, Facts, Page), AllocError>
+    requires accepted { IsAccepted workload }
+    ensures { IfOk result (λ r. IsReady workload r.0 r.1 r.2) }
+{
+    let mut core = Core::new(alloc, workload)?;
+    finish(&mut core, steps)?;
+    let facts = core.facts(alloc)?;
+    let page = Page::new(alloc)?;
+    Ok((core, facts, page))
+}
+
+/// Runs a workload: first the turns that its `go` lines ask for, and then those that drain it; and writes
+/// what was done. All memory is taken before anything is written.
+fn replay<K: Sink, L: Ledger>(
+    alloc: Global,
+    workload: Workload,
+    sink: &mut K,
+    blank: Blank,
+) -> Result<(), Stop>
     requires accepted { IsAccepted workload }
     requires name { blank.name ≡ L.name }
     requires parts { blank.parts ≡ L.parts }
     requires some { 0 < L.parts }
-    ensures { IfOk result (λ text. text.items ≡ text_of workload (run_of workload)) }
+    ensures { Writes (record { held = K.held; faults = K.faults; room = K.room }) sink.old sink.new
+        (text_of workload (run_of workload)) result }
 {
     let mut steps: Steps<L> = Steps::new(blank);
-    let mut core = Core::new(alloc, workload)?;
-    finish(&mut core, &mut steps)?;
-    text_of(alloc, &core, &mut steps)
+    let (core, facts, mut page) = prepare(alloc, workload, &mut steps)?;
+    send(&core, &facts, &mut page, sink, &mut steps)?;
+    Ok(())
 }
 
-/// The answer to an input that is refused.
-fn refused(alloc: Global, fault: LineFault) -> Result<Output, AllocError>
-    ensures { IfOk result (λ r. (r.status ≡ Status.Refused) × (r.text.items ≡ refusal_text fault)) }
+/// Writes the line that refuses an input.
+fn refuse<K: Sink>(alloc: Global, fault: LineFault, sink: &mut K) -> Result<(), Stop>
+    ensures { Writes (record { held = K.held; faults = K.faults; room = K.room }) sink.old sink.new (refusal_text fault) result }
 {
-    Ok(Output {
-        text: refusal(alloc, fault)?,
-        status: Status::Refused,
-    })
+    let text = refusal(alloc, fault)?;
+    write_all(sink, &text)?;
+    Ok(())
 }
 
-/// The answer to a whole input.
-fn answer(alloc: Global, input: &[u8]) -> Result<Output, AllocError>
-    ensures { IfOk result (λ r. AnswersTo input.now r.text.items r.status) }
+/// The workload that an input spells. The input isn't kept.
+fn read(alloc: Global, input: Vec<u8>) -> Result<Workload, ReadWorkload>
+    ensures { Reading input.items result }
 {
-    match read_workload(alloc, input) {
-        Err(ReadWorkload::Memory) => Err(AllocError),
-        Err(ReadWorkload::Line(fault)) => refused(alloc, fault),
-        Ok(workload) => Ok(Output {
-            text: replay::<Brand>(alloc, workload, Blank::new(1))?,
-            status: Status::Ok,
-        }),
+    read_workload(alloc, &input)
+}
+
+/// Answers a whole input.
+fn answer<K: Sink>(alloc: Global, input: Vec<u8>, sink: &mut K) -> Result<Status, Stop>
+    ensures { WritesAnswer (record { held = K.held; faults = K.faults; room = K.room }) sink.old sink.new input.items result }
+{
+    match read(alloc, input) {
+        Err(ReadWorkload::Memory) => Err(Stop::Memory),
+        Err(ReadWorkload::Line(fault)) => {
+            refuse(alloc, fault, sink)?;
+            Ok(Status::Refused)
+        }
+        Ok(workload) => {
+            replay::<K, Brand>(alloc, workload, sink, Blank::new(1))?;
+            Ok(Status::Ok)
+        }
     }
 }
 
-/// The answer to all that the source has left.
-pub(crate) fn reply<S: Source>(alloc: Global, source: &mut S) -> Result<Output, Stop>
-    ensures ok { IfOk result (λ r. Answers (S.left source.old) (S.left source.new) r.text.items r.status) }
-    ensures end { IfOk result (λ r. r.status ≡ Status.Ok → IsAtEnd (S.left source.new)) }
+/// Answers all that the source has left.
+pub(crate) fn reply<S: Source, K: Sink>(
+    alloc: Global,
+    source: &mut S,
+    sink: &mut K,
+) -> Result<Status, Stop>
+    ensures sink { Replies (record { held = K.held; faults = K.faults; room = K.room })
+        (S.left source.old) (S.left source.new) sink.old sink.new result }
+    ensures end { IfOk result (λ s. s ≡ Status.Ok → IsAtEnd (S.left source.new)) }
     ensures read { result ≡ Err Stop.Read → Rose (S.faults source.old) (S.faults source.new) }
 {
     match read_all(alloc, source, LONGEST) {
-        Ok(input) => Ok(answer(alloc, &input)?),
-        Err(InputFault::Long) => Ok(refused(
-            alloc,
-            LineFault {
+        Ok(input) => answer(alloc, input, sink),
+        Err(InputFault::Long) => {
+            let fault = LineFault {
                 line: 0,
                 cause: Cause::Long,
-            },
-        )?),
+            };
+            refuse(alloc, fault, sink)?;
+            Ok(Status::Refused)
+        }
         Err(InputFault::Read) => Err(Stop::Read),
         Err(InputFault::Memory) => Err(Stop::Memory),
     }

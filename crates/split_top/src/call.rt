@@ -1,6 +1,6 @@
 //! The top call.
 //!
-//! The words choose what to do with the input. The whole answer is made before any of it is written.
+//! The words choose what to do with the input. Nothing is written before all is made that may want memory.
 ghost use Rattle.std.specs.Prelude.{◌≡◌, ◌≢◌, map};
 ghost use Rattle.std.specs.Io.KnownBytes.{IsAtEnd};
 ghost use Rattle.outside.specs.Faults.{Rose};
@@ -9,7 +9,7 @@ ghost use Rattle.split_top.specs.Outcome.{Outcome};
 
 use crate::answer::{Stop, reply};
 use crate::command::{Command, command_of};
-use outside::{Sink, Source, write_all};
+use outside::{Sink, Source};
 use std::alloc::Global;
 
 /// How the program ends.
@@ -44,20 +44,18 @@ fn run<S: Source, K: Sink>(alloc: Global, source: &mut S, sink: &mut K) -> Statu
     ensures audit_no { result ≢ Status.AuditNo }
     ensures same_room { K.room sink.new ≡ K.room sink.old }
 {
-    match reply(alloc, source) {
+    match reply(alloc, source, sink) {
+        Ok(status) => status,
         Err(Stop::Read) => Status::ReadFault,
+        Err(Stop::Write) => Status::WriteFault,
         Err(Stop::Memory) => Status::OutOfMemory,
-        Ok(reply) => match write_all(sink, &reply.text) {
-            Ok(()) => reply.status,
-            Err(_) => Status::WriteFault,
-        },
     }
 }
 
 /// Does what the words ask for: with the word `replay`, reads the source to its end as the text of a
 /// workload, and writes the trace and the report of its run to the sink; or the one line that refuses it.
 ///
-/// It writes nothing before the whole answer is made, reads at most 16,777,217 bytes, and always returns.
+/// It writes nothing before it has all the memory that it needs, reads at most 16,777,217 bytes, and always returns.
 pub fn plain<S: Source, K: Sink>(
     alloc: Global,
     words: &[&str],

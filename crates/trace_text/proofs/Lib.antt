@@ -1,0 +1,11 @@
+pub mod Fields
+pub mod NumberLaws
+pub mod LineHeads
+pub mod ClientEvents
+pub mod ThreadEvents
+pub mod TailLaws
+pub mod RequestLaws
+pub mod ReturnLaws
+pub mod EventsLaws
+pub mod FirstLaws
+pub mod TraceLaws

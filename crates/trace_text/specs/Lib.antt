@@ -1,0 +1,9 @@
+pub mod EventLines
+pub mod Numbers
+pub mod Rows
+pub mod Tails
+pub mod ReadsEvent
+pub mod TraceLines
+pub mod Events
+pub mod ReadsTrace
+pub mod Reading

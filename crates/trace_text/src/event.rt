@@ -1,39 +1,36 @@
 //! The line of an event: what it is, its actor, and its numbers.
-ghost use Rattle.std.specs.Prelude.{◌≡◌, [], ◌∷◌, OnOk, IfOk, codes, if◌then◌else◌};
-ghost use Rattle.split_types.specs.Adds.{Adds};
+ghost use Rattle.std.specs.Prelude.{◌≡◌, [], ◌∷◌, IfOk, codes, if◌then◌else◌};
+ghost use Rattle.line_printer.specs.Puts.{Puts};
 ghost use Rattle.split_types.specs.Lines.{numeral, fields, line};
 ghost use Rattle.split_types.specs.EventText.{numerals, reply_words, request_words, event_word, event_fields, event_words};
 
-use split_types::{
-    Event, Reply, ReqKind, Request, actor_of, end_line, kind_word, put_actor, put_number, put_text,
-    put_word,
-};
+use line_printer::{Printer, Sheet, end_line, kind_word, put_actor, put_number, put_word};
+use split_types::{Event, Reply, ReqKind, Request, actor_of};
 use std::alloc::{AllocError, Global};
 
 /// About how many bytes the line of an event has.
 pub(crate) const LINE: usize = 24;
 
-/// Appends numbers, each behind a space.
-fn put_numbers(out: &mut Vec<u8>, numbers: &[u64]) -> Result<(), AllocError>
-    ensures { OnOk result (Adds out.old.items out.new.items (fields (numerals numbers.now))) }
+/// Prints numbers, each behind a space.
+fn put_numbers<P: Printer>(out: &mut P, numbers: &[u64])
+    ensures { Puts P.due out.old out.new (fields (numerals numbers.now)) }
 {
     for n in numbers {
-        put_number(out, *n)?;
+        put_number(out, *n);
     }
-    Ok(())
 }
 
-/// Appends a word and numbers, each behind a space.
-fn put_counted(out: &mut Vec<u8>, word: &[u8], numbers: &[u64]) -> Result<(), AllocError>
-    ensures { OnOk result (Adds out.old.items out.new.items (fields (word.now ∷ numerals numbers.now))) }
+/// Prints a word and numbers, each behind a space.
+fn put_counted<P: Printer>(out: &mut P, word: &[u8], numbers: &[u64])
+    ensures { Puts P.due out.old out.new (fields (word.now ∷ numerals numbers.now)) }
 {
-    put_word(out, word)?;
+    put_word(out, word);
     put_numbers(out, numbers)
 }
 
-/// Appends the words of an answer.
-fn put_reply(out: &mut Vec<u8>, reply: Reply) -> Result<(), AllocError>
-    ensures { OnOk result (Adds out.old.items out.new.items (fields (reply_words reply))) }
+/// Prints the words of an answer.
+fn put_reply<P: Printer>(out: &mut P, reply: Reply)
+    ensures { Puts P.due out.old out.new (fields (reply_words reply)) }
 {
     match reply {
         Reply::Done => put_word(out, b"done"),
@@ -48,9 +45,9 @@ fn put_reply(out: &mut Vec<u8>, reply: Reply) -> Result<(), AllocError>
     }
 }
 
-/// Appends the words of a request: its kind, its blocks, and what it is for.
-fn put_request(out: &mut Vec<u8>, r: &Request) -> Result<(), AllocError>
-    ensures { OnOk result (Adds out.old.items out.new.items (fields (request_words r.now))) }
+/// Prints the words of a request: its kind, its blocks, and what it is for.
+fn put_request<P: Printer>(out: &mut P, r: &Request)
+    ensures { Puts P.due out.old out.new (fields (request_words r.now)) }
 {
     let word = kind_word(r.kind);
     let first = u64::from(r.first);
@@ -67,11 +64,11 @@ fn put_request(out: &mut Vec<u8>, r: &Request) -> Result<(), AllocError>
     }
 }
 
-/// Appends the number of a request, and whether it was done well.
-fn put_outcome(out: &mut Vec<u8>, id: u32, ok: bool) -> Result<(), AllocError>
-    ensures { OnOk result (Adds out.old.items out.new.items (fields (numeral id ∷ (if ok then codes "ok" else codes "bad") ∷ []))) }
+/// Prints the number of a request, and whether it was done well.
+fn put_outcome<P: Printer>(out: &mut P, id: u32, ok: bool)
+    ensures { Puts P.due out.old out.new (fields (numeral id ∷ (if ok then codes "ok" else codes "bad") ∷ [])) }
 {
-    put_number(out, u64::from(id))?;
+    put_number(out, u64::from(id));
     put_word(out, if ok { b"ok" } else { b"bad" })
 }
 
@@ -100,12 +97,12 @@ fn event_word(e: &Event) -> &'static [u8]
     }
 }
 
-/// Appends the words that follow an event's actor.
-fn put_fields(out: &mut Vec<u8>, e: &Event) -> Result<(), AllocError>
-    ensures { OnOk result (Adds out.old.items out.new.items (fields (event_fields e.now))) }
+/// Prints the words that follow an event's actor.
+fn put_fields<P: Printer>(out: &mut P, e: &Event)
+    ensures { Puts P.due out.old out.new (fields (event_fields e.now)) }
 {
     match *e {
-        Event::Admit { .. } | Event::Flushed { .. } | Event::Skip => Ok(()),
+        Event::Admit { .. } | Event::Flushed { .. } | Event::Skip => {}
         Event::Enter { k, .. } => put_numbers(out, [u64::from(k)].as_slice()),
         Event::Make { slot, serial, .. } | Event::Drop { slot, serial, .. } => {
             put_numbers(out, [u64::from(slot.0), u64::from(serial.0)].as_slice())
@@ -163,16 +160,9 @@ fn put_fields(out: &mut Vec<u8>, e: &Event) -> Result<(), AllocError>
     }
 }
 
-/// Appends the file, the page, the bytes `from` to `to - 1` of it, and one number more.
-fn put_bytes(
-    out: &mut Vec<u8>,
-    serial: u32,
-    page: u32,
-    from: u32,
-    to: u32,
-    last: u64,
-) -> Result<(), AllocError>
-    ensures { OnOk result (Adds out.old.items out.new.items (fields (numerals (serial ∷ page ∷ from ∷ to ∷ last ∷ [])))) }
+/// Prints the file, the page, the bytes `from` to `to - 1` of it, and one number more.
+fn put_bytes<P: Printer>(out: &mut P, serial: u32, page: u32, from: u32, to: u32, last: u64)
+    ensures { Puts P.due out.old out.new (fields (numerals (serial ∷ page ∷ from ∷ to ∷ last ∷ []))) }
 {
     put_numbers(
         out,
@@ -187,22 +177,22 @@ fn put_bytes(
     )
 }
 
-/// Appends the line of an event.
-pub fn put_event(out: &mut Vec<u8>, e: &Event) -> Result<(), AllocError>
-    ensures { OnOk result (Adds out.old.items out.new.items (line (event_words e.now))) }
+/// Prints the line of an event.
+pub fn put_event<P: Printer>(out: &mut P, e: &Event)
+    ensures { Puts P.due out.old out.new (line (event_words e.now)) }
 {
-    put_text(out, event_word(e))?;
-    put_actor(out, actor_of(e))?;
-    put_fields(out, e)?;
-    end_line(out)?;
-    Ok(())
+    out.put(event_word(e));
+    put_actor(out, actor_of(e));
+    put_fields(out, e);
+    end_line(out);
 }
 
 /// The line of an event, with its newline.
+#[tactic(auto, using(line_printer::proofs::Shared::on_sheet))]
 pub fn print_event(alloc: Global, e: &Event) -> Result<Vec<u8>, AllocError>
     ensures { IfOk result (λ text. text.items ≡ line (event_words e.now)) }
 {
-    let mut text = Vec::with_capacity(alloc, LINE)?;
-    put_event(&mut text, e)?;
-    Ok(text)
+    let mut sheet = Sheet::with_room(alloc, LINE)?;
+    put_event(&mut sheet, e);
+    sheet.finish()
 }

@@ -7,7 +7,14 @@
 #![tactic(auto)]
 
 mod event;
+mod event_line;
+mod first_line;
+mod made;
+mod numbers;
+mod reading;
+mod row;
 mod trace;
 
 pub use event::{print_event, put_event};
-pub use trace::print_trace;
+pub use reading::{TraceParts, read_trace};
+pub use trace::{print_trace, put_trace};

@@ -1,40 +1,52 @@
 //! The text of a trace.
-ghost use Rattle.std.specs.Prelude.{◌≡◌, OnOk, IfOk, reverse};
-ghost use Rattle.split_types.specs.Adds.{Adds};
+ghost use Rattle.std.specs.Prelude.{◌≡◌, IfOk, reverse};
+ghost use Rattle.line_printer.specs.Puts.{Puts};
 ghost use Rattle.split_types.specs.Lines.{lines_of};
 ghost use Rattle.split_types.specs.EventText.{event_words};
 ghost use Rattle.split_types.specs.TraceText.{trace_version, trace_text};
 
 use crate::event::{LINE, put_event};
 use hook_events::{History, Steps};
-use split_types::{Workload, put_number_line};
+use line_printer::{Printer, Sheet, put_number_line};
+use split_types::Workload;
 use std::alloc::{AllocError, Global};
 use std::sync::ledger::Ledger;
 use workload_reader::put_workload;
 
 /// The number on the first line of a workload's trace.
-fn trace_version(version: u32) -> u64
+pub(crate) fn trace_version(version: u32) -> u64
     ensures { result ≡ trace_version version }
 {
     if version == 3 { 2 } else { 1 }
 }
 
-/// Appends the lines of all events, from the oldest on.
-fn put_events<L: Ledger>(
-    out: &mut Vec<u8>,
-    h: &History,
-    steps: &mut Steps<L>,
-) -> Result<(), AllocError>
-    ensures { OnOk result (Adds out.old.items out.new.items (lines_of event_words (reverse h.now.events))) }
+/// Prints the lines of all events, from the oldest on.
+fn put_events<P: Printer, L: Ledger>(out: &mut P, h: &History, steps: &mut Steps<L>)
+    ensures { Puts P.due out.old out.new (lines_of event_words (reverse h.now.events)) }
 {
     for i in 0..h.len() {
-        put_event(out, h.at(i, steps))?;
+        put_event(out, &h.at(i, steps));
     }
-    Ok(())
 }
 
-/// The text of a trace: the workload, the number of events, and the events from the oldest on. It reads
-/// each event once.
+/// Prints the text of a trace: the workload, the number of events, and the events from the oldest on. It
+/// reads each event once.
+pub fn put_trace<P: Printer, L: Ledger>(
+    out: &mut P,
+    w: &Workload,
+    h: &History,
+    steps: &mut Steps<L>,
+)
+    ensures { Puts P.due out.old out.new (trace_text w.now h.now.events) }
+{
+    put_number_line(out, b"splittrace", trace_version(w.version));
+    put_workload(out, w);
+    put_number_line(out, b"events", h.len() as u64);
+    put_events(out, h, steps);
+}
+
+/// The text of a trace, as [`put_trace`] prints it.
+#[tactic(auto, using(line_printer::proofs::Shared::on_sheet))]
 pub fn print_trace<L: Ledger>(
     alloc: Global,
     w: &Workload,
@@ -43,10 +55,7 @@ pub fn print_trace<L: Ledger>(
 ) -> Result<Vec<u8>, AllocError>
     ensures { IfOk result (λ text. text.items ≡ trace_text w.now h.now.events) }
 {
-    let mut text = Vec::with_capacity(alloc, h.len().saturating_mul(LINE))?;
-    put_number_line(&mut text, b"splittrace", trace_version(w.version))?;
-    put_workload(&mut text, w)?;
-    put_number_line(&mut text, b"events", h.len() as u64)?;
-    put_events(&mut text, h, steps)?;
-    Ok(text)
+    let mut sheet = Sheet::with_room(alloc, h.len().saturating_mul(LINE))?;
+    put_trace(&mut sheet, w, h, steps);
+    sheet.finish()
 }

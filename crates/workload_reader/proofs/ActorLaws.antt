@@ -11,7 +11,7 @@ use Rattle.workload_reader.specs.Actors.{IsEnded, ActorAt}
 use Rattle.workload_reader.proofs.Alike.{differ, cancel, number_alike}
 
 -- a number's word begins with a digit
-letter : (n b : ℕ) (x y : List ℕ) → is_ascii_digit b ≡ false → numeral n ++ x ≡ b ∷ y → ⊥
+pub letter : (n b : ℕ) (x y : List ℕ) → is_ascii_digit b ≡ false → numeral n ++ x ≡ b ∷ y → ⊥
 letter n b x y other e =
     let f = front n in
     let first : f.first ≡ b = let g = sym (ap (λ l. l ++ x) f.word_is) ∙ e in cc in
@@ -23,7 +23,8 @@ numbers m n x y end_x end_y e =
     let other : NumberAt (numeral m ++ x) n y = record { text_is = e; ends = end_y } in
     (number_alike one other).1
 
-actors : (a b : Actor) (x y : List ℕ) → IsEnded a x → IsEnded b y → 32 ∷ actor_word a ++ x ≡ 32 ∷ actor_word b ++ y → x ≡ y
+actors : (a b : Actor) (x y : List ℕ) → IsEnded a x → IsEnded b y → 32 ∷ actor_word a ++ x ≡ 32 ∷ actor_word b ++ y
+    → x ≡ y
 actors (Client p) (Client q) x y end_x end_y e = numbers p.0 q.0 x y end_x end_y (cancel (32 ∷ 99 ∷ []) e)
 actors Wb Wb x y end_x end_y e = cancel (32 ∷ 119 ∷ 98 ∷ []) e
 actors Cm Cm x y end_x end_y e = cancel (32 ∷ 99 ∷ 109 ∷ []) e
@@ -37,7 +38,8 @@ actors (Dn k) Dq x y end_x end_y e = absurd (differ 2 e refl)
 actors a b x y end_x end_y e = absurd (differ 1 e refl)
 
 -- what follows the actor that was read is what follows it in the text
-pub after_actor : {text x : List ℕ} {a : Actor} (b : Actor) (rest : List ℕ) → ActorAt text a x → text ≡ 32 ∷ actor_word b ++ rest → IsEnded b rest → x ≡ rest
+pub after_actor : {text x : List ℕ} {a : Actor} (b : Actor) (rest : List ℕ) → ActorAt text a x
+    → text ≡ 32 ∷ actor_word b ++ rest → IsEnded b rest → x ≡ rest
 after_actor {text} {x} {a} b rest at e ends = actors a b x rest at.ends ends (sym at.text_is ∙ e)
 
 -- a space ends each

@@ -9,7 +9,8 @@ use Rattle.workload_reader.specs.Table.{IsCallInRange}
 use Rattle.workload_reader.proofs.Alike.{differ, cancel, after_extent}
 
 -- what follows the extent of a read
-pub after_read : {text name x : List ℕ} {off len : ℕ} → ExtentAt text name off len x → (c : Call) (rest : List ℕ) → IsRead c → text ≡ behind (drop 1 (action_fields c)) (10 ∷ rest) → x ≡ 10 ∷ rest
+pub after_read : {text name x : List ℕ} {off len : ℕ} → ExtentAt text name off len x → (c : Call) (rest : List ℕ)
+    → IsRead c → text ≡ behind (drop 1 (action_fields c)) (10 ∷ rest) → x ≡ 10 ∷ rest
 after_read a (Read name off len) rest is e = after_extent a (record { text_is = e; named = is; ends = refl })
 after_read a (Creat name) rest is e = absurd is
 after_read a (Write name off len fill) rest is e = absurd is
@@ -17,8 +18,10 @@ after_read a (Fsync name) rest is e = absurd is
 after_read a (Unlink name) rest is e = absurd is
 
 -- what follows the extent of a write: its byte
-pub after_write : {text name x : List ℕ} {off len : ℕ} → ExtentAt text name off len x → (c : Call) (rest : List ℕ) → IsWrite c → text ≡ behind (drop 1 (action_fields c)) (10 ∷ rest) → (fill : ℕ) × FieldAt x fill (10 ∷ rest)
-after_write a (Write name off len fill) rest is e = (fill, record { text_is = after_extent a (record { text_is = e; named = is; ends = refl }); ends = refl })
+pub after_write : {text name x : List ℕ} {off len : ℕ} → ExtentAt text name off len x → (c : Call) (rest : List ℕ)
+    → IsWrite c → text ≡ behind (drop 1 (action_fields c)) (10 ∷ rest) → (fill : ℕ) × FieldAt x fill (10 ∷ rest)
+after_write a (Write name off len fill) rest is e =
+    (fill, record { text_is = after_extent a (record { text_is = e; named = is; ends = refl }); ends = refl })
 after_write a (Creat name) rest is e = absurd is
 after_write a (Read name off len) rest is e = absurd is
 after_write a (Fsync name) rest is e = absurd is
@@ -38,13 +41,21 @@ pub record HasVerb (verb : List ℕ) (IsKind : Call → Type 0) : Type 0 where
   pub only : (c : Call) (rest more : List ℕ) → IsNamed c → behind (action_fields c) rest ≡ 32 ∷ verb ++ more → IsKind c
 
 -- what was read behind that word is what was read
-pub at_verb : {verb : List ℕ} {IsKind : Call → Type 0} → HasVerb verb IsKind → (text more : List ℕ) (r : Option (Option Call × Bor (List ℕ))) → text ≡ 32 ∷ verb ++ more
-    → Reads IsKind (λ c. drop 1 (action_fields c)) (Keeps IsCallInRange) more r → Reads IsNamed action_fields (Keeps IsCallInRange) text r
-at_verb {verb} {IsKind} v text more (Some r) is p =
-    (p.0, v.named p.0 p.1, is ∙ ap (λ l. 32 ∷ verb ++ l) p.2 ∙ ap (λ l. behind l (10 ∷ r.1.now)) (sym (v.first p.0 p.1)), p.3)
+pub at_verb : {verb : List ℕ} {IsKind : Call → Type 0} → HasVerb verb IsKind
+    → (text more : List ℕ) (r : Option (Option Call × Bor (List ℕ))) → text ≡ 32 ∷ verb ++ more
+    → Reads IsKind (λ c. drop 1 (action_fields c)) (Keeps IsCallInRange) more r
+    → Reads IsNamed action_fields (Keeps IsCallInRange) text r
+at_verb {verb} {IsKind} v text more (Some r) is p = (
+  p.0,
+  v.named p.0 p.1,
+  is ∙ ap (λ l. 32 ∷ verb ++ l) p.2
+      ∙ ap (λ l. behind l (10 ∷ r.1.now)) (sym (v.first p.0 p.1)),
+  p.3,
+)
 at_verb {verb} {IsKind} v text more None is p = λ c rest named e.
     let kind = v.only c (10 ∷ rest) more named (sym e ∙ is) in
-    let both : 32 ∷ verb ++ more ≡ 32 ∷ verb ++ behind (drop 1 (action_fields c)) (10 ∷ rest) = sym is ∙ e ∙ ap (λ l. behind l (10 ∷ rest)) (v.first c kind) in
+    let both : 32 ∷ verb ++ more ≡ 32 ∷ verb ++ behind (drop 1 (action_fields c)) (10 ∷ rest) = sym is ∙ e
+    ∙ ap (λ l. behind l (10 ∷ rest)) (v.first c kind) in
     p c rest kind (cancel (32 ∷ verb) both)
 
 pub creat_verb : HasVerb (codes "creat") IsCreat
@@ -57,7 +68,8 @@ creat_verb = record { named = named; first = first; only = only } where
   first (Creat name) is = refl
   first c is = absurd is
 
-  only : (c : Call) (rest more : List ℕ) → IsNamed c → behind (action_fields c) rest ≡ 32 ∷ codes "creat" ++ more → IsCreat c
+  only : (c : Call) (rest more : List ℕ) → IsNamed c → behind (action_fields c) rest ≡ 32 ∷ codes "creat" ++ more
+      → IsCreat c
   only (Creat name) rest more is e = is
   only c rest more is e = absurd (differ 1 e refl)
 
@@ -71,7 +83,8 @@ write_verb = record { named = named; first = first; only = only } where
   first (Write name off len fill) is = refl
   first c is = absurd is
 
-  only : (c : Call) (rest more : List ℕ) → IsNamed c → behind (action_fields c) rest ≡ 32 ∷ codes "write" ++ more → IsWrite c
+  only : (c : Call) (rest more : List ℕ) → IsNamed c → behind (action_fields c) rest ≡ 32 ∷ codes "write" ++ more
+      → IsWrite c
   only (Write name off len fill) rest more is e = is
   only c rest more is e = absurd (differ 1 e refl)
 
@@ -85,7 +98,8 @@ read_verb = record { named = named; first = first; only = only } where
   first (Read name off len) is = refl
   first c is = absurd is
 
-  only : (c : Call) (rest more : List ℕ) → IsNamed c → behind (action_fields c) rest ≡ 32 ∷ codes "read" ++ more → IsRead c
+  only : (c : Call) (rest more : List ℕ) → IsNamed c → behind (action_fields c) rest ≡ 32 ∷ codes "read" ++ more
+      → IsRead c
   only (Read name off len) rest more is e = is
   only c rest more is e = absurd (differ 1 e refl)
 
@@ -99,7 +113,8 @@ fsync_verb = record { named = named; first = first; only = only } where
   first (Fsync name) is = refl
   first c is = absurd is
 
-  only : (c : Call) (rest more : List ℕ) → IsNamed c → behind (action_fields c) rest ≡ 32 ∷ codes "fsync" ++ more → IsFsync c
+  only : (c : Call) (rest more : List ℕ) → IsNamed c → behind (action_fields c) rest ≡ 32 ∷ codes "fsync" ++ more
+      → IsFsync c
   only (Fsync name) rest more is e = is
   only c rest more is e = absurd (differ 1 e refl)
 
@@ -113,6 +128,7 @@ unlink_verb = record { named = named; first = first; only = only } where
   first (Unlink name) is = refl
   first c is = absurd is
 
-  only : (c : Call) (rest more : List ℕ) → IsNamed c → behind (action_fields c) rest ≡ 32 ∷ codes "unlink" ++ more → IsUnlink c
+  only : (c : Call) (rest more : List ℕ) → IsNamed c → behind (action_fields c) rest ≡ 32 ∷ codes "unlink" ++ more
+      → IsUnlink c
   only (Unlink name) rest more is e = is
   only c rest more is e = absurd (differ 1 e refl)

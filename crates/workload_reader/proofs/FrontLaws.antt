@@ -1,5 +1,6 @@
 -- The lines of a text, read one by one.
-use Rattle.std.proofs.Common.{◌≡◌, ℕ, ◌+◌, ◌<◌, ◌≤◌, List, [], ◌∷◌, ◌++◌, length, true, false, arith, refl, sym, ap, ◌∙◌, length-append, eq-eqb}
+use Rattle.std.proofs.Common.{◌≡◌, ℕ, ◌+◌, ◌<◌, ◌≤◌, List, [], ◌∷◌, ◌++◌, length, true, false, arith, refl, sym, ap}
+use Rattle.std.proofs.Common.{◌∙◌, length-append, eq-eqb}
 use Rattle.std.proofs.lemmas.List.{append_assoc}
 use Rattle.std.proofs.lemmas.Bool.{ne_eqb}
 use Rattle.split_types.specs.Lines.{fields, line as line_of}
@@ -34,7 +35,8 @@ stage-most (l ∷ before) = omega (arith, place-most l)
 -- a line has a byte at least
 pub line-some : (words : List (List ℕ)) → 1 ≤ length (line_of words)
 line-some [] = omega arith
-line-some (word ∷ words) = omega (arith, length-append word (fields words ++ 10 ∷ []), length-append (fields words) (10 ∷ []))
+line-some (word ∷ words) =
+    omega (arith, length-append word (fields words ++ 10 ∷ []), length-append (fields words) (10 ∷ []))
 
 pub not-ended : (before : List Line) → stage before < 12 → has_ended before ≡ false
 not-ended before below = ne_eqb (stage before) 12 (λ e. omega (arith, e, below))
@@ -52,7 +54,8 @@ pub record Walks (text : List ℕ) (first : ℕ) (workload : Workload) (at : ℕ
   pub text_is : text ≡ lines_text before ++ rest
   pub few : length before + length rest ≤ length text
 
-pub begins : (text : List ℕ) (first : ℕ) (workload : Workload) (at : ℕ) → workload ≡ nothing → at ≡ 0 → Walks text first workload at text first
+pub begins : (text : List ℕ) (first : ℕ) (workload : Workload) (at : ℕ) → workload ≡ nothing → at ≡ 0
+    → Walks text first workload at text first
 begins text first workload at said at-is = record {
   before = [];
   right = tt;
@@ -64,7 +67,8 @@ begins text first workload at said at-is = record {
 }
 
 -- one line more was read
-pub goes : (text : List ℕ) (first : ℕ) (old new : Seen) (rest more : List ℕ) (line : ℕ) → Walks text first old.workload old.stage rest line → TookLine old new rest more
+pub goes : (text : List ℕ) (first : ℕ) (old new : Seen) (rest more : List ℕ) (line : ℕ)
+    → Walks text first old.workload old.stage rest line → TookLine old new rest more
     → Walks text first new.workload new.stage more (line + 1)
 goes text first old new rest more line walks took =
     let l : Line = took.l in
@@ -76,12 +80,17 @@ goes text first old new rest more line walks took =
       said_is = rw is (sym took.adds.workload_is);
       stage_is = sym took.adds.stage_is;
       number = omega (walks.number, arith);
-      text_is = walks.text_is ∙ ap (λ r. lines_text walks.before ++ r) took.takes.text_is ∙ sym (append_assoc (lines_text walks.before) (text_line l) more);
-      few = omega (arith, walks.few, ap length took.takes.text_is, length-append (text_line l) more, line-some (line_words l));
+      text_is =
+          walks.text_is ∙ ap (λ r. lines_text walks.before ++ r) took.takes.text_is
+          ∙ sym (append_assoc (lines_text walks.before) (text_line l) more);
+      few =
+          omega
+          (arith, walks.few, ap length took.takes.text_is, length-append (text_line l) more, line-some (line_words l));
     }
 
 -- the next line is refused
-pub halts : (text : List ℕ) (first : ℕ) (seen : Seen) (rest : List ℕ) (line : ℕ) (c : Cause) → Walks text first seen.workload seen.stage rest line → seen.stage < 12 → Stops seen.workload seen.stage rest c
+pub halts : (text : List ℕ) (first : ℕ) (seen : Seen) (rest : List ℕ) (line : ℕ) (c : Cause)
+    → Walks text first seen.workload seen.stage rest line → seen.stage < 12 → Stops seen.workload seen.stage rest c
     → (lines : ℕ) × (first + lines ≡ line) × RefusesFront text lines c
 halts text first seen rest line c walks going stops =
     let is : said walks.before ≡ seen.workload = walks.said_is in
@@ -100,7 +109,8 @@ halts text first seen rest line c walks going stops =
     )
 
 -- `end` was read
-pub arrives : (text : List ℕ) (first : ℕ) (seen : Seen) (rest : List ℕ) (line : ℕ) → Walks text first seen.workload seen.stage rest line → 12 ≤ seen.stage
+pub arrives : (text : List ℕ) (first : ℕ) (seen : Seen) (rest : List ℕ) (line : ℕ)
+    → Walks text first seen.workload seen.stage rest line → 12 ≤ seen.stage
     → (lines : ℕ) × (first + lines ≡ line) × ReadsFront text seen.workload lines rest
 arrives text first seen rest line walks over = (
   length walks.before,
@@ -113,4 +123,20 @@ arrives text first seen rest line walks over = (
     number = refl;
     text_is = walks.text_is;
   },
+)
+
+lines_some : (before : List Line) → length before ≤ length (lines_text before)
+lines_some [] = omega arith
+lines_some (l ∷ before) =
+    omega (arith, lines_some before, length-append (lines_text before) (text_line l), line-some (line_words l))
+
+-- each line of a workload has a byte at least
+pub front_some : {text rest : List ℕ} {w : Workload} {lines : ℕ} → ReadsFront text w lines rest
+    → lines + length rest ≤ length text
+front_some {text} {rest} {w} {lines} front = omega (
+  arith,
+  front.number,
+  lines_some front.before,
+  ap length front.text_is,
+  length-append (lines_text front.before) rest,
 )

@@ -1,5 +1,6 @@
 -- The first words of lines.
-use Rattle.std.proofs.Common.{◌≡◌, ℕ, ◌+◌, ◌<◌, ◌≤◌, true, false, List, [], ◌∷◌, ◌++◌, codes, ap, refl, sym, ◌∙◌, arith, append_assoc, Option, Some, None, Result, Bor}
+use Rattle.std.proofs.Common.{◌≡◌, ℕ, ◌+◌, ◌<◌, ◌≤◌, true, false, List, [], ◌∷◌, ◌++◌, codes, ap, refl, sym, ◌∙◌, arith}
+use Rattle.std.proofs.Common.{append_assoc, Option, Some, None, Result, Bor}
 use Rattle.std.proofs.lemmas.Bool.Decides.{nat_tests}
 use Rattle.split_types.specs.declared.workload.Workload.{Workload}
 use Rattle.split_types.specs.Lines.{fields, line}
@@ -14,7 +15,8 @@ use Rattle.workload_reader.specs.Weighed.{Weighed}
 use Rattle.workload_reader.proofs.Alike.{differ, cancel}
 
 -- words behind spaces, a newline and what follows
-fields_behind : (words : List (List ℕ)) (rest : List ℕ) → (fields words ++ 10 ∷ []) ++ rest ≡ behind words (10 ∷ rest)
+pub fields_behind : (words : List (List ℕ)) (rest : List ℕ)
+    → (fields words ++ 10 ∷ []) ++ rest ≡ behind words (10 ∷ rest)
 fields_behind [] rest = refl
 fields_behind (word ∷ words) rest =
     ap (λ l. 32 ∷ l ++ rest) (append_assoc word (fields words) (10 ∷ []))
@@ -26,23 +28,33 @@ pub record HasHead (word : List ℕ) (k : ℕ) : Type 0 where
   pub first : (l : Line) → place l ≡ k → line_words l ≡ word ∷ line_fields l
   pub only : (l : Line) (rest more : List ℕ) → text_line l ++ rest ≡ word ++ more → place l ≡ k
 
-text_behind : {word : List ℕ} {k : ℕ} → HasHead word k → (l : Line) (rest : List ℕ) → place l ≡ k → text_line l ++ rest ≡ word ++ behind (line_fields l) (10 ∷ rest)
+pub text_behind : {word : List ℕ} {k : ℕ} → HasHead word k → (l : Line) (rest : List ℕ) → place l ≡ k
+    → text_line l ++ rest ≡ word ++ behind (line_fields l) (10 ∷ rest)
 text_behind {word} {k} head l rest at =
     ap (λ words. line words ++ rest) (head.first l at)
     ∙ append_assoc word (fields (line_fields l) ++ 10 ∷ []) rest
     ∙ ap (λ m. word ++ m) (fields_behind (line_fields l) rest)
 
 -- what was read behind that word is what was read
-pub at_head : {word : List ℕ} {k : ℕ} → HasHead word k → (w : Workload) (stage : ℕ) (text more : List ℕ) (r : Option (Result Line Cause × Bor (List ℕ))) → text ≡ word ++ more → stands stage k ≡ true
+pub at_head : {word : List ℕ} {k : ℕ} → HasHead word k
+    → (w : Workload) (stage : ℕ) (text more : List ℕ) (r : Option (Result Line Cause × Bor (List ℕ)))
+    → text ≡ word ++ more → stands stage k ≡ true
     → Reads (IsAt k) line_fields (Weighed (InRange w) (Refers w)) more r → ReadsLine w stage text r
-at_head {word} {k} head w stage text more (Some r) is may p =
-    (p.0, p.1.1, ap (stands stage) p.1.0 ∙ may, is ∙ ap (λ l. word ++ l) p.2 ∙ sym (text_behind head p.0 r.1.now p.1.0), p.3)
+at_head {word} {k} head w stage text more (Some r) is may p = (
+  p.0,
+  p.1.1,
+  ap (stands stage) p.1.0 ∙ may,
+  is ∙ ap (λ l. word ++ l) p.2
+      ∙ sym (text_behind head p.0 r.1.now p.1.0),
+  p.3,
+)
 at_head {word} {k} head w stage text more None is may p = λ l rest formed stand e.
     let at = head.only l rest more (sym e ∙ is) in
     p l rest (at, formed) (cancel word (sym is ∙ e ∙ text_behind head l rest at))
 
 -- a line of that word may not stand here
-pub not_here : {word : List ℕ} {k : ℕ} → HasHead word k → (w : Workload) (stage : ℕ) (text more : List ℕ) → text ≡ word ++ more → stands stage k ≡ false → ReadsLine w stage text None
+pub not_here : {word : List ℕ} {k : ℕ} → HasHead word k → (w : Workload) (stage : ℕ) (text more : List ℕ)
+    → text ≡ word ++ more → stands stage k ≡ false → ReadsLine w stage text None
 not_here {word} {k} head w stage text more is not l rest formed stand e =
     let at = head.only l rest more (sym e ∙ is) in absurd (cc (sym (ap (stands stage) at ∙ not) ∙ stand))
 

@@ -10,3 +10,10 @@ pub mod StopLaws
 pub mod FrontLaws
 pub mod Whole
 pub mod Sound
+pub mod GeneratedLaws
+pub mod GeneratedRight
+pub mod LinesAlike
+pub mod Walks
+pub mod RefusalLaws
+pub mod Complete
+pub mod TextLaws

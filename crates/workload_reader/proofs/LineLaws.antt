@@ -24,6 +24,8 @@ one_number m n x y e =
     (number_alike a b).0
 
 -- a number out of the range of versions is no version
-pub no_version : {text : List ℕ} {n : ℕ} (l : Line) (x rest : List ℕ) → IsAt 0 l → text ≡ behind (line_fields l) (10 ∷ rest) → text ≡ behind (numeral n ∷ []) (10 ∷ x) → (IsWithin 1 3 n → ⊥) → ⊥
-no_version {text} {n} (kind.Version m) x rest at e is out = out (subst (IsWithin 1 3) (one_number m n rest x (sym e ∙ is)) at.1)
+pub no_version : {text : List ℕ} {n : ℕ} (l : Line) (x rest : List ℕ) → IsAt 0 l
+    → text ≡ behind (line_fields l) (10 ∷ rest) → text ≡ behind (numeral n ∷ []) (10 ∷ x) → (IsWithin 1 3 n → ⊥) → ⊥
+no_version {text} {n} (kind.Version m) x rest at e is out =
+    out (subst (IsWithin 1 3) (one_number m n rest x (sym e ∙ is)) at.1)
 no_version l x rest at e is out = absurd (omega arith)

@@ -1,5 +1,7 @@
 -- What is kept beside a workload while its lines are read.
-use Rattle.std.proofs.Common.{◌≡◌, ◌≢◌, ℕ, zero, suc, ◌+◌, ◌<◌, ◌≤◌, ◌∙◌, Bool, true, false, List, [], ◌∷◌, ◌++◌, length, get_or, set, replicate, slice_get, slice_index_or, Option, Some, None, All, IsFalse, option_map, unwrap_or, ap, refl, sym, arith, ◌⊎◌, inl, inr}
+use Rattle.std.proofs.Common.{◌≡◌, ◌≢◌, ℕ, zero, suc, ◌+◌, ◌<◌, ◌≤◌, ◌∙◌, Bool, true, false, List, [], ◌∷◌, ◌++◌}
+use Rattle.std.proofs.Common.{length, get_or, set, replicate, slice_get, slice_index_or, Option, Some, None, All}
+use Rattle.std.proofs.Common.{IsFalse, option_map, unwrap_or, ap, refl, sym, arith, ◌⊎◌, inl, inr}
 use Rattle.std.proofs.lemmas.Bool.{false≢true, cases_lt}
 use Rattle.std.proofs.lemmas.List.{get_or-set_same, get_or-set_other, length-set, length_push, length-replicate}
 use Rattle.std.proofs.lemmas.Option.{slice_get_within, get_or_from_slice_get}
@@ -50,7 +52,8 @@ begun names none = record {
 }
 
 -- one file more
-pub one_more : (keys : List (Option FileName)) (files : List Preset) (f : Preset) → AreNames keys files → length files < 256
+pub one_more : (keys : List (Option FileName)) (files : List Preset) (f : Preset) → AreNames keys files
+    → length files < 256
     → AreNames (set keys (length files) (Some (record { 0 = f.name }))) (files ++ f ∷ [])
 one_more keys files f names few = record {
   places = length-set keys (length files) _ ∙ names.places;
@@ -59,7 +62,8 @@ one_more keys files f names few = record {
       let far : i ≢ length files = λ e. absurd (omega (arith, length_push files f)) in
       get_or-set_other keys (length files) i _ None far ∙ names.empty i (omega (arith, length_push files f));
 } where
-  held : (i : ℕ) (g : Preset) → (slice_get files i ≡ Some g) ⊎ ((i ≡ length files) × (f ≡ g)) → slice_index_or (set keys (length files) (Some (record { 0 = f.name }))) i None ≡ Some (record { 0 = g.name })
+  held : (i : ℕ) (g : Preset) → (slice_get files i ≡ Some g) ⊎ ((i ≡ length files) × (f ≡ g))
+      → slice_index_or (set keys (length files) (Some (record { 0 = f.name }))) i None ≡ Some (record { 0 = g.name })
   held i g (inl old) =
       let within = slice_get_within files i g old in
       let far : i ≢ length files = λ e. absurd (omega arith) in
@@ -75,7 +79,8 @@ key_name (Some key) = key.0
 key_name None = []
 
 -- a place that holds a key is that of a file of that name
-pub named_at : (keys : List (Option FileName)) (files : List Preset) (name : List ℕ) (i : ℕ) → AreNames keys files → slice_index_or keys i None ≡ Some (record { 0 = name })
+pub named_at : (keys : List (Option FileName)) (files : List Preset) (name : List ℕ) (i : ℕ) → AreNames keys files
+    → slice_index_or keys i None ≡ Some (record { 0 = name })
     → (f : Preset) × (slice_get files i ≡ Some f) × (f.name ≡ name)
 unfolding key_name
 named_at keys files name i names there =
@@ -87,41 +92,54 @@ named_at keys files name i names there =
       by_place (inr past) = absurd (cc (sym (names.empty i past) ∙ there))
 
 -- no file has the name
-pub absent : (keys : List (Option FileName)) (files : List Preset) (name : List ℕ) → AreNames keys files → All (λ g. IsFalse (bytes_eq g.name name)) files → IsAbsent keys (record { 0 = name })
+pub absent : (keys : List (Option FileName)) (files : List Preset) (name : List ℕ) → AreNames keys files
+    → All (λ g. IsFalse (bytes_eq g.name name)) files → IsAbsent keys (record { 0 = name })
 absent keys files name names new i there =
     let at = named_at keys files name i names there in
-    false≢true (sym (all_at (λ g. IsFalse (bytes_eq g.name name)) files i at.0 new at.1) ∙ (bytes_eq-Decides at.0.name name).1 at.2)
+    false≢true
+    (sym (all_at (λ g. IsFalse (bytes_eq g.name name)) files i at.0 new at.1)
+    ∙ (bytes_eq-Decides at.0.name name).1 at.2)
 
 only_false : (b : Bool) → (b ≡ true → ⊥) → b ≡ false
 only_false true never = absurd (never refl)
 only_false false never = refl
 
 -- a file of the name is at a place that holds it
-held_at : (keys : List (Option FileName)) (files : List Preset) (name : List ℕ) (k : ℕ) (d : Preset) → AreNames keys files → k < length files → bytes_eq (get_or files k d).name name ≡ true
+held_at : (keys : List (Option FileName)) (files : List Preset) (name : List ℕ) (k : ℕ) (d : Preset)
+    → AreNames keys files → k < length files → bytes_eq (get_or files k d).name name ≡ true
     → slice_index_or keys k None ≡ Some (record { 0 = name })
 held_at keys files name k d names within same =
     let some = some_at files k within in
-    let here : some.0.name ≡ name = ap (λ f. f.name) (sym (get_or_from_slice_get files k some.0 d some.1)) ∙ (bytes_eq-Decides (get_or files k d).name name).0 same in
+    let here : some.0.name ≡ name = ap (λ f. f.name) (sym (get_or_from_slice_get files k some.0 d some.1))
+    ∙ (bytes_eq-Decides (get_or files k d).name name).0 same in
     names.held k some.0 some.1 ∙ ap (λ x. let key : FileName = record { 0 = x } in Some key) here
 
 -- no place holds the name, so no file has it
-pub new_name : (keys : List (Option FileName)) (files : List Preset) (name : List ℕ) → AreNames keys files → IsAbsent keys (record { 0 = name }) → All (λ g. IsFalse (bytes_eq g.name name)) files
-new_name keys files name names none k d within = only_false (bytes_eq (get_or files k d).name name) (λ same. none k (held_at keys files name k d names within same))
+pub new_name : (keys : List (Option FileName)) (files : List Preset) (name : List ℕ) → AreNames keys files
+    → IsAbsent keys (record { 0 = name }) → All (λ g. IsFalse (bytes_eq g.name name)) files
+new_name keys files name names none k d within =
+    only_false (bytes_eq (get_or files k d).name name) (λ same. none k (held_at keys files name k d names within same))
 
 -- the place that holds the name is that of the first file of that name
-pub place_named : (keys : List (Option FileName)) (files : List Preset) (name : List ℕ) (at : ℕ) → AreNames keys files → IsPlaceOf keys (record { 0 = name }) at → file_named files name ≡ Some at
+pub place_named : (keys : List (Option FileName)) (files : List Preset) (name : List ℕ) (at : ℕ) → AreNames keys files
+    → IsPlaceOf keys (record { 0 = name }) at → file_named files name ≡ Some at
 place_named keys files name at names place =
     let there = named_at keys files name at names place.here in
     let f = there.0 in
     let within = slice_get_within files at f there.1 in
-    let first : position_or_len (λ g. bytes_eq g.name name) files ≡ at = position_or_len_is (λ g. bytes_eq g.name name) files at f (omega arith)
-    (λ k below. only_false (bytes_eq (get_or files k f).name name) (λ same. let one = place.only k (held_at keys files name k f names (omega arith) same) in absurd (omega arith)))
-    (λ _. ap (λ g. bytes_eq g.name name) (get_or_from_slice_get files at f f there.1) ∙ (bytes_eq-Decides f.name name).1 there.2) in
+    let first : position_or_len (λ g. bytes_eq g.name name) files ≡ at = position_or_len_is
+    (λ g. bytes_eq g.name name) files at f (omega arith)
+    (λ k below. only_false (bytes_eq (get_or files k f).name name)
+    (λ same. let one = place.only k (held_at keys files name k f names (omega arith) same) in absurd (omega arith)))
+    (λ _. ap (λ g. bytes_eq g.name name) (get_or_from_slice_get files at f f there.1)
+    ∙ (bytes_eq-Decides f.name name).1 there.2) in
     rw first (grind (arith, nat_tests))
 
 -- one file more, that is right
-pub one_file : (w : Workload) (f : Preset) (pages spanned turns least : ℕ) (names : List (Option FileName)) → StandsFor w pages spanned turns least names → IsRight w (kind.File f)
-    → StandsFor (with_line w (kind.File f)) (pages + f.pages) spanned turns least (set names (length w.files) (Some (record { 0 = f.name })))
+pub one_file : (w : Workload) (f : Preset) (pages spanned turns least : ℕ) (names : List (Option FileName))
+    → StandsFor w pages spanned turns least names → IsRight w (kind.File f)
+    → StandsFor (with_line w (kind.File f)) (pages + f.pages) spanned turns least
+    (set names (length w.files) (Some (record { 0 = f.name })))
 one_file w f pages spanned turns least names s right =
     let few = right.few in
     let fits = right.fits in
@@ -141,19 +159,24 @@ one_file w f pages spanned turns least names s right =
     }
 
 -- the place of the file of a name, and its pages
-pub file_at : (w : Workload) (keys : List (Option FileName)) (name : List ℕ) (at : ℕ) (f : Preset) → AreNames keys w.files → IsPlaceOf keys (record { 0 = name }) at → slice_get w.files at ≡ Some f
+pub file_at : (w : Workload) (keys : List (Option FileName)) (name : List ℕ) (at : ℕ) (f : Preset)
+    → AreNames keys w.files → IsPlaceOf keys (record { 0 = name }) at → slice_get w.files at ≡ Some f
     → (place : ℕ) × (file_named w.files name ≡ Some place) × (pages_in w place ≡ f.pages)
 file_at w keys name at f names place is =
     (at, place_named keys w.files name at names place, ap (λ o. unwrap_or (option_map (λ g. g.pages) o) 0) is)
 
 -- it is one of the files
-pub place_within : (keys : List (Option FileName)) (files : List Preset) (name : List ℕ) (at : ℕ) → AreNames keys files → IsPlaceOf keys (record { 0 = name }) at → at < length files
-place_within keys files name at names place = let there = named_at keys files name at names place.here in slice_get_within files at there.0 there.1
+pub place_within : (keys : List (Option FileName)) (files : List Preset) (name : List ℕ) (at : ℕ) → AreNames keys files
+    → IsPlaceOf keys (record { 0 = name }) at → at < length files
+place_within keys files name at names place =
+    let there = named_at keys files name at names place.here in slice_get_within files at there.0 there.1
 
 -- no file has the name
-pub none_named : (files : List Preset) (name : List ℕ) → All (λ g. IsFalse (bytes_eq g.name name)) files → file_named files name ≡ None
+pub none_named : (files : List Preset) (name : List ℕ) → All (λ g. IsFalse (bytes_eq g.name name)) files
+    → file_named files name ≡ None
 none_named [] name none = refl
 none_named (f ∷ files) name none =
-    let past : position_or_len (λ g. bytes_eq g.name name) (f ∷ files) ≡ length (f ∷ files) = position_or_len_is (λ g. bytes_eq g.name name) (f ∷ files) (length (f ∷ files)) f (omega arith)
+    let past : position_or_len (λ g. bytes_eq g.name name) (f ∷ files) ≡ length (f ∷ files) = position_or_len_is
+    (λ g. bytes_eq g.name name) (f ∷ files) (length (f ∷ files)) f (omega arith)
     (λ k below. none k f below) (λ within. absurd (omega arith)) in
     rw past (grind (arith, nat_tests))

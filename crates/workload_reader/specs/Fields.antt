@@ -1,5 +1,6 @@
 -- What stands at the front of a text, and what follows it.
-use Rattle.std.specs.Prelude.{◌≡◌, ◌≢◌, ℕ, ◌==◌, ◌^◌, ◌≤◌, List, [], ◌∷◌, ◌++◌, nat_lt, Bool, true, false, not, ◌||◌, if◌then◌else◌, Option, Some, None, IsTrue, ℤ, ◌≤ℤ◌}
+use Rattle.std.specs.Prelude.{◌≡◌, ◌≢◌, ℕ, ◌==◌, ◌^◌, ◌≤◌, List, [], ◌∷◌, ◌++◌, nat_lt, Bool, true, false, not, ◌||◌}
+use Rattle.std.specs.Prelude.{if◌then◌else◌, Option, Some, None, IsTrue, ℤ, ◌≤ℤ◌}
 use Rattle.std.specs.Char.{is_ascii_digit}
 use Rattle.std.specs.Borrow.{Bor}
 use Rattle.std.specs.List.{list_all}
@@ -83,6 +84,8 @@ pub record ExtentAt (text name : List ℕ) (off len : ℕ) (rest : List ℕ) : T
 
 -- what was read of a line behind its first word: something with these fields and the newline, and in r what was found
 -- out of it, with what follows the line; or no such thing stands there
-abbrev pub Reads : {X Y : Type 0} → (X → Type 0) → (X → List (List ℕ)) → (X → Y → Type 0) → List ℕ → Option (Y × Bor (List ℕ)) → Type 0
+abbrev pub Reads : {X Y : Type 0} → (X → Type 0) → (X → List (List ℕ)) → (X → Y → Type 0) → List ℕ
+    → Option (Y × Bor (List ℕ)) → Type 0
 Reads {X} IsFormed fields Says text None = (x : X) (rest : List ℕ) → IsFormed x → text ≢ behind (fields x) (10 ∷ rest)
-Reads {X} IsFormed fields Says text (Some r) = (x : X) × IsFormed x × (text ≡ behind (fields x) (10 ∷ r.1.now)) × Says x r.0
+Reads {X} IsFormed fields Says text (Some r) =
+    (x : X) × IsFormed x × (text ≡ behind (fields x) (10 ∷ r.1.now)) × Says x r.0

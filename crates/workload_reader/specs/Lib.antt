@@ -14,3 +14,6 @@ pub mod Refusal
 pub mod Taking
 pub mod Front
 pub mod Reading
+pub mod Laws
+pub mod Generated
+pub mod Making

@@ -1,11 +1,13 @@
 -- The lines of a workload's text, and what they say.
-use Rattle.std.specs.Prelude.{◌≡◌, ℕ, ◌+◌, ◌==◌, ◌≤◌, drop, List, [], ◌∷◌, ◌++◌, codes, nat_le, nat_lt, Bool, ◌&&◌, IsTrue, if◌then◌else◌}
+use Rattle.std.specs.Prelude.{◌≡◌, ℕ, ◌+◌, ◌==◌, ◌≤◌, drop, List, [], ◌∷◌, ◌++◌, codes, nat_le, nat_lt, Bool, ◌&&◌}
+use Rattle.std.specs.Prelude.{IsTrue, if◌then◌else◌}
 use Rattle.split_types.specs.declared.workload.Sched.TheVariants.{Fifo}
 use Rattle.split_types.specs.declared.workload.Workload.{Workload}
 use Rattle.split_types.specs.Names.{is_name}
 use Rattle.split_types.specs.Calls.{name_of}
 use Rattle.split_types.specs.Lines.{numeral, line}
-use Rattle.split_types.specs.WorkloadText.{sched_word, account_words, process_words, preset_words, call_words, fail_words, go_words}
+use Rattle.split_types.specs.WorkloadText.{sched_word, account_words, process_words, preset_words, call_words}
+use Rattle.split_types.specs.WorkloadText.{fail_words, go_words}
 use Rattle.workload_reader.specs.declared.line.Line.{Line}
 use Rattle.workload_reader.specs.declared.line.Line.TheVariants as kind
 
@@ -53,9 +55,11 @@ abbrev pub stage : List Line → ℕ
 stage [] = 0
 stage (l ∷ before) = place l + 1
 
--- the first five stand once each; each of the others may stand again, or not at all, but for `end`, after which nothing does
+-- the first five stand once each; each of the others may stand again, or not at all, but for `end`, after which
+-- nothing does
 abbrev pub stands : ℕ → ℕ → Bool
-stands stage place = if nat_lt place 5 then stage == place else nat_le 5 stage && nat_le stage (place + 1) && nat_lt stage 12
+stands stage place =
+    if nat_lt place 5 then stage == place else nat_le 5 stage && nat_le stage (place + 1) && nat_lt stage 12
 
 abbrev pub may_stand : List Line → Line → Bool
 may_stand before l = stands (stage before) (place l)
@@ -71,7 +75,19 @@ lines_text (l ∷ before) = lines_text before ++ text_line l
 
 -- no line said anything
 abbrev pub nothing : Workload
-nothing = record { version = 0; device = 0; cache = 0; depth = 0; sched = Fifo; accounts = []; procs = []; files = []; calls = []; fails = []; go = [] }
+nothing = record {
+  version = 0;
+  device = 0;
+  cache = 0;
+  depth = 0;
+  sched = Fifo;
+  accounts = [];
+  procs = [];
+  files = [];
+  calls = [];
+  fails = [];
+  go = [];
+}
 
 -- what is said with one line more
 abbrev pub with_line : Workload → Line → Workload

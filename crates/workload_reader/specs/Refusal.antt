@@ -12,19 +12,24 @@ use Rattle.workload_reader.specs.Table.{IsRight, Fails}
 -- each line, of which the last stands first, is right by what those before it say
 abbrev pub AreRight : List Line → Type 0
 AreRight [] = Unit {0}
-AreRight (l ∷ before) = AreRight before × IsFormed l × (stands (stage before) (place l) ≡ true) × IsRight (said before) l
+AreRight (l ∷ before) =
+    AreRight before × IsFormed l × (stands (stage before) (place l) ≡ true) × IsRight (said before) l
 
 abbrev pub has_newline : List ℕ → Bool
 has_newline bytes = list_any (λ b. b == 10) bytes
 
--- why no line follows at the front of these bytes, given what the lines before say: it is none of the lines that may stand
--- here; or it isn't whole; or it is one, and this is the first thing that is wrong with it
+-- why no line follows at the front of these bytes, given what the lines before say: it is none of the lines that may
+-- stand here; or it isn't whole; or it is one, and this is the first thing that is wrong with it
 abbrev pub Stops : Workload → ℕ → List ℕ → Cause → Type 0
-Stops w stage bytes cause.Form = (has_newline bytes ≡ true) × ((l : Line) (rest : List ℕ) → IsFormed l → stands stage (place l) ≡ true → bytes ≢ text_line l ++ rest)
+Stops w stage bytes cause.Form =
+    (has_newline bytes ≡ true)
+    × ((l : Line) (rest : List ℕ) → IsFormed l → stands stage (place l) ≡ true → bytes ≢ text_line l ++ rest)
 Stops w stage bytes cause.Cut = has_newline bytes ≡ false
 Stops w stage bytes cause.After = ⊥
 Stops w stage bytes cause.Long = ⊥
-Stops w stage bytes c = (l : Line) × (rest : List ℕ) × IsFormed l × (stands stage (place l) ≡ true) × (bytes ≡ text_line l ++ rest) × Fails w l c
+Stops w stage bytes c =
+    (l : Line) × (rest : List ℕ) × IsFormed l × (stands stage (place l) ≡ true) × (bytes ≡ text_line l ++ rest)
+    × Fails w l c
 
 -- the lines of a workload up to `end`, at the front of a text, and what follows them
 pub record ReadsFront (text : List ℕ) (w : Workload) (lines : ℕ) (rest : List ℕ) : Type 0 where

@@ -39,8 +39,10 @@ fn process_of(
     weight: Option<u32>,
     deadline: Option<u32>,
 ) -> Result<Process, Cause>
-    ensures { (p : Process) (accounts : ℕ) → Keeps (IsWithin 1 accounts) p.account account → Keeps (IsWithin 1 1000) p.weight weight
-        → Keeps (IsWithin 0 1000000000) p.deadline deadline → Weighed IsProcessInRange (λ q. IsOneOf accounts q.account) p result }
+    ensures { (p : Process) (accounts : ℕ) → Keeps (IsWithin 1 accounts) p.account account
+        → Keeps (IsWithin 1 1000) p.weight weight
+        → Keeps (IsWithin 0 1000000000) p.deadline deadline
+        → Weighed IsProcessInRange (λ q. IsOneOf accounts q.account) p result }
 {
     let (Some(weight), Some(deadline)) = (weight, deadline) else {
         return Err(Cause::Range);
@@ -56,7 +58,8 @@ fn process_of(
 /// The process of a line, where its numbers are in their ranges and its account is one of so many, and the lines
 /// that follow.
 pub(crate) fn process(text: &[u8], accounts: u32) -> Option<(Result<Process, Cause>, &[u8])>
-    ensures { Reads (λ _. ⊤) process_fields (Weighed IsProcessInRange (λ p. IsOneOf accounts p.account)) text.now result }
+    ensures { Reads (λ _. ⊤) process_fields
+        (Weighed IsProcessInRange (λ p. IsOneOf accounts p.account)) text.now result }
 {
     let (account, rest) = ranged(text, 1, accounts)?;
     let (weight, rest) = ranged(rest, 1, 1000)?;

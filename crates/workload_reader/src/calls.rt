@@ -18,8 +18,10 @@ use split_types::{Call, Name, Pid};
 
 /// The bytes of a file that are read or written, behind a space, and what follows them.
 fn extent(text: &[u8]) -> Option<(Extent, &[u8])>
-    ensures { MatchOption result ((name : List ℕ) (off len : ℕ) (rest : List ℕ) → ExtentAt text.now name off len rest → ⊥)
-        (λ r. (name : List ℕ) × (off : ℕ) × (len : ℕ) × ExtentAt text.now name off len r.1.now × IsExtent name off len r.0) }
+    ensures { MatchOption result
+        ((name : List ℕ) (off len : ℕ) (rest : List ℕ) → ExtentAt text.now name off len rest → ⊥)
+        (λ r. (name : List ℕ) × (off : ℕ) × (len : ℕ) × ExtentAt text.now name off len r.1.now
+        × IsExtent name off len r.0) }
 {
     let (word, rest) = spaced(text)?;
     let name = Name::new(word)?;
@@ -30,7 +32,8 @@ fn extent(text: &[u8]) -> Option<(Extent, &[u8])>
 
 /// A read of bytes that are in their ranges.
 fn read_of(extent: Extent) -> Option<Call>
-    ensures { (name : List ℕ) (off len : ℕ) → IsExtent name off len extent → Keeps IsCallInRange (Call.Read name off len) result }
+    ensures { (name : List ℕ) (off len : ℕ) → IsExtent name off len extent
+        → Keeps IsCallInRange (Call.Read name off len) result }
 {
     let name = extent.name;
     let off = extent.off?;
@@ -80,7 +83,8 @@ fn write(text: &[u8]) -> Option<(Option<Call>, &[u8])>
 
 /// The name that is all that is left of a line.
 fn last_name(text: &[u8]) -> Option<(Name, &[u8])>
-    ensures { MatchOption result ((name : List ℕ) (rest : List ℕ) → IsTrue (is_name name) → text.now ≢ behind (name ∷ []) (10 ∷ rest))
+    ensures { MatchOption result
+        ((name : List ℕ) (rest : List ℕ) → IsTrue (is_name name) → text.now ≢ behind (name ∷ []) (10 ∷ rest))
         (λ r. IsTrue (is_name r.0) × (text.now ≡ behind (r.0 ∷ []) (10 ∷ r.1.now))) }
 {
     let (word, rest) = spaced(text)?;
@@ -149,7 +153,8 @@ fn call_of(by: Option<u32>, call: Option<Call>) -> Result<(Pid, Call), Cause>
 /// The call of a line, where its numbers are in their ranges and its process is one of so many, and the lines that
 /// follow.
 pub(crate) fn call(text: &[u8], procs: u32) -> Option<(Result<(Pid, Call), Cause>, &[u8])>
-    ensures { Reads (λ c. IsNamed c.1) call_fields (Weighed (λ c. IsCallInRange c.1) (λ c. IsOneOf procs c.0.0)) text.now result }
+    ensures { Reads (λ c. IsNamed c.1) call_fields
+        (Weighed (λ c. IsCallInRange c.1) (λ c. IsOneOf procs c.0.0)) text.now result }
 {
     let (by, rest) = ranged(text, 1, procs)?;
     match action(rest) {

@@ -8,8 +8,8 @@ use crate::seen::Seen;
 use split_types::Workload;
 use std::alloc::Global;
 
-/// The workload of the lines at the front of the text up to `end`, of which `first` is the number of the first one, with
-/// what follows them and the number of the line that would be next.
+/// The workload of the lines at the front of the text up to `end`, with what follows them and the number of the line
+/// that would be next. The number of the first line is `first`.
 pub fn read_front(
     alloc: Global,
     text: &[u8],

@@ -27,7 +27,8 @@ fn least_device(version: u32) -> u32
 }
 
 fn device_of(value: Option<u32>) -> Result<Line, Cause>
-    ensures { (w : Workload) (n least : ℕ) → least ≡ least_device w → Keeps (IsWithin least 32768) n value → Weighed (InRange w) (Refers w) (Line.Device n) result }
+    ensures { (w : Workload) (n least : ℕ) → least ≡ least_device w → Keeps (IsWithin least 32768) n value
+        → Weighed (InRange w) (Refers w) (Line.Device n) result }
 {
     let n = value.ok_or(Cause::Range)?;
     Ok(Line::Device(n))
@@ -35,14 +36,16 @@ fn device_of(value: Option<u32>) -> Result<Line, Cause>
 
 /// The device's line.
 pub(crate) fn device_line(text: &[u8], version: u32) -> Option<(Result<Line, Cause>, &[u8])>
-    ensures { (w : Workload) → w.version ≡ version → Reads (IsAt 1) line_fields (Weighed (InRange w) (Refers w)) text.now result }
+    ensures { (w : Workload) → w.version ≡ version
+        → Reads (IsAt 1) line_fields (Weighed (InRange w) (Refers w)) text.now result }
 {
     let (value, rest) = setting(text, least_device(version), 32768)?;
     Some((device_of(value), rest))
 }
 
 fn cache_of(value: Option<u32>) -> Result<Line, Cause>
-    ensures { (w : Workload) (n : ℕ) → Keeps (IsWithin 2 4096) n value → Weighed (InRange w) (Refers w) (Line.Cache n) result }
+    ensures { (w : Workload) (n : ℕ) → Keeps (IsWithin 2 4096) n value
+        → Weighed (InRange w) (Refers w) (Line.Cache n) result }
 {
     let n = value.ok_or(Cause::Range)?;
     Ok(Line::Cache(n))
@@ -57,7 +60,8 @@ pub(crate) fn cache_line(text: &[u8]) -> Option<(Result<Line, Cause>, &[u8])>
 }
 
 fn depth_of(value: Option<u32>) -> Result<Line, Cause>
-    ensures { (w : Workload) (n : ℕ) → Keeps (IsWithin 1 16) n value → Weighed (InRange w) (Refers w) (Line.Depth n) result }
+    ensures { (w : Workload) (n : ℕ) → Keeps (IsWithin 1 16) n value
+        → Weighed (InRange w) (Refers w) (Line.Depth n) result }
 {
     let n = value.ok_or(Cause::Range)?;
     Ok(Line::Depth(n))

@@ -6,7 +6,8 @@ ghost use Rattle.split_types.specs.IsWorkload.{IsAccount};
 ghost use Rattle.workload_reader.specs.Fields.{Keeps, IsWithin, Reads};
 ghost use Rattle.workload_reader.specs.Rising.{IsLeastAbove};
 ghost use Rattle.workload_reader.specs.Line.{IsAt, line_fields};
-ghost use Rattle.workload_reader.specs.Table.{InRange, Refers, IsOneOf, IsActorOf, IsProcessInRange, IsPresetInRange, IsCallInRange, IsGoInRange};
+ghost use Rattle.workload_reader.specs.Table.{InRange, Refers, IsOneOf, IsActorOf, IsProcessInRange, IsPresetInRange};
+ghost use Rattle.workload_reader.specs.Table.{IsCallInRange, IsGoInRange};
 ghost use Rattle.workload_reader.specs.Weighed.{Weighed};
 
 use crate::actors::{account, process};
@@ -19,7 +20,8 @@ use crate::turns::turns;
 use split_types::{Account, Call, Go, Pid, Preset, Process};
 
 fn account_of(value: Option<Account>) -> Result<Line, Cause>
-    ensures { (w : Workload) (a : Account) → Keeps IsAccount a value → Weighed (InRange w) (Refers w) (Line.Account a) result }
+    ensures { (w : Workload) (a : Account) → Keeps IsAccount a value
+        → Weighed (InRange w) (Refers w) (Line.Account a) result }
 {
     let account = value.ok_or(Cause::Range)?;
     Ok(Line::Account(account))
@@ -34,7 +36,8 @@ pub(crate) fn account_line(text: &[u8]) -> Option<(Result<Line, Cause>, &[u8])>
 }
 
 fn process_of(value: Result<Process, Cause>) -> Result<Line, Cause>
-    ensures { (w : Workload) (p : Process) (accounts : ℕ) → accounts ≡ length w.accounts → Weighed IsProcessInRange (λ q. IsOneOf accounts q.account) p value
+    ensures { (w : Workload) (p : Process) (accounts : ℕ) → accounts ≡ length w.accounts
+        → Weighed IsProcessInRange (λ q. IsOneOf accounts q.account) p value
         → Weighed (InRange w) (Refers w) (Line.Process p) result }
 {
     let process = value?;
@@ -43,14 +46,16 @@ fn process_of(value: Result<Process, Cause>) -> Result<Line, Cause>
 
 /// A process's line.
 pub(crate) fn process_line(text: &[u8], accounts: u32) -> Option<(Result<Line, Cause>, &[u8])>
-    ensures { (w : Workload) → accounts ≡ length w.accounts → Reads (IsAt 6) line_fields (Weighed (InRange w) (Refers w)) text.now result }
+    ensures { (w : Workload) → accounts ≡ length w.accounts
+        → Reads (IsAt 6) line_fields (Weighed (InRange w) (Refers w)) text.now result }
 {
     let (value, rest) = process(text, accounts)?;
     Some((process_of(value), rest))
 }
 
 fn file_of(value: Option<Preset>) -> Result<Line, Cause>
-    ensures { (w : Workload) (f : Preset) → Keeps IsPresetInRange f value → Weighed (InRange w) (Refers w) (Line.File f) result }
+    ensures { (w : Workload) (f : Preset) → Keeps IsPresetInRange f value
+        → Weighed (InRange w) (Refers w) (Line.File f) result }
 {
     let file = value.ok_or(Cause::Range)?;
     Ok(Line::File(file))
@@ -67,7 +72,8 @@ pub(crate) fn file_line(text: &[u8]) -> Option<(Result<Line, Cause>, &[u8])>
 }
 
 fn call_of(value: Result<(Pid, Call), Cause>) -> Result<Line, Cause>
-    ensures { (w : Workload) (c : Pid × Call) (procs : ℕ) → procs ≡ length w.procs → Weighed (λ d. IsCallInRange d.1) (λ d. IsOneOf procs d.0.0) c value
+    ensures { (w : Workload) (c : Pid × Call) (procs : ℕ) → procs ≡ length w.procs
+        → Weighed (λ d. IsCallInRange d.1) (λ d. IsOneOf procs d.0.0) c value
         → Weighed (InRange w) (Refers w) (Line.Call c.0 c.1) result }
 {
     match value {
@@ -78,7 +84,8 @@ fn call_of(value: Result<(Pid, Call), Cause>) -> Result<Line, Cause>
 
 /// A call's line.
 pub(crate) fn call_line(text: &[u8], procs: u32) -> Option<(Result<Line, Cause>, &[u8])>
-    ensures { (w : Workload) → procs ≡ length w.procs → Reads (IsAt 8) line_fields (Weighed (InRange w) (Refers w)) text.now result }
+    ensures { (w : Workload) → procs ≡ length w.procs
+        → Reads (IsAt 8) line_fields (Weighed (InRange w) (Refers w)) text.now result }
 {
     match call(text, procs) {
         Some(found) => Some((call_of(found.0), found.1)),
@@ -87,7 +94,8 @@ pub(crate) fn call_line(text: &[u8], procs: u32) -> Option<(Result<Line, Cause>,
 }
 
 fn go_of(value: Result<Go, Cause>) -> Result<Line, Cause>
-    ensures { (w : Workload) (g : Go) (procs : ℕ) → procs ≡ length w.procs → Weighed IsGoInRange (λ h. IsActorOf procs h.actor) g value
+    ensures { (w : Workload) (g : Go) (procs : ℕ) → procs ≡ length w.procs
+        → Weighed IsGoInRange (λ h. IsActorOf procs h.actor) g value
         → Weighed (InRange w) (Refers w) (Line.Go g) result }
 {
     let go = value?;
@@ -106,7 +114,8 @@ fn fail_of(value: Option<u32>, least: u64) -> Result<Line, Cause>
 
 /// The line of a send that is done badly, given the least number that is above those of the lines before.
 pub(crate) fn fail_line(text: &[u8], least: u64) -> Option<(Result<Line, Cause>, &[u8])>
-    ensures { (w : Workload) → IsLeastAbove least w.fails → Reads (IsAt 9) line_fields (Weighed (InRange w) (Refers w)) text.now result }
+    ensures { (w : Workload) → IsLeastAbove least w.fails
+        → Reads (IsAt 9) line_fields (Weighed (InRange w) (Refers w)) text.now result }
 {
     let (value, rest) = setting(text, 0, u32::MAX)?;
     Some((fail_of(value, least), rest))
@@ -114,7 +123,8 @@ pub(crate) fn fail_line(text: &[u8], least: u64) -> Option<(Result<Line, Cause>,
 
 /// The line of an actor's turns.
 pub(crate) fn go_line(text: &[u8], procs: u32) -> Option<(Result<Line, Cause>, &[u8])>
-    ensures { (w : Workload) → procs ≡ length w.procs → Reads (IsAt 10) line_fields (Weighed (InRange w) (Refers w)) text.now result }
+    ensures { (w : Workload) → procs ≡ length w.procs
+        → Reads (IsAt 10) line_fields (Weighed (InRange w) (Refers w)) text.now result }
 {
     let (value, rest) = turns(text, procs)?;
     Some((go_of(value), rest))

@@ -27,7 +27,8 @@ impl Seen {
     /// The number of pages of the file of this name, where there is one.
     fn pages_of(&self, name: &Name) -> Option<u32>
         ensures { MatchOption result (file_named self.now.workload.files name.now ≡ None)
-            (λ pages. (at : ℕ) × (file_named self.now.workload.files name.now ≡ Some at) × (pages_in self.now.workload at ≡ pages)) }
+            (λ pages. (at : ℕ) × (file_named self.now.workload.files name.now ≡ Some at)
+            × (pages_in self.now.workload at ≡ pages)) }
     {
         match self.names.find(&FileName(*name)) {
             Some(at) => Some(self.workload.files.at(at).pages),
@@ -63,7 +64,8 @@ impl Seen {
 
     /// Whether there may be this call more.
     fn has_call_left(&self, call: &Call) -> bool
-        ensures { IsTrue result ↔ ((length self.now.workload.calls + 1 ≤ 65536) × (spans self.now.workload + span call.now ≤ 131072)) }
+        ensures { IsTrue result
+            ↔ ((length self.now.workload.calls + 1 ≤ 65536) × (spans self.now.workload + span call.now ≤ 131072)) }
     {
         self.workload.calls.len() < 65536 && self.spanned + span(call) <= 131_072
     }
@@ -128,7 +130,8 @@ impl Seen {
 
     /// Whether with the file there is room in the cache for the pages of all files, and for one of each process.
     fn has_room_for(&self, pages: u32) -> bool
-        ensures { IsTrue result ↔ (preset_pages self.now.workload + pages + length self.now.workload.procs ≤ self.now.workload.cache) }
+        ensures { IsTrue result
+            ↔ (preset_pages self.now.workload + pages + length self.now.workload.procs ≤ self.now.workload.cache) }
     {
         let pages = u64::from(self.pages) + u64::from(pages);
         pages + self.workload.procs.len() as u64 <= u64::from(self.workload.cache)

@@ -52,7 +52,8 @@ pub(crate) fn item_at(
 ) -> Option<(Result<Line, Cause>, &[u8])>
     requires first { 5 ≤ stage }
     requires open { stage < 12 }
-    ensures { (w : Workload) → counts.accounts ≡ length w.accounts → counts.procs ≡ length w.procs → IsLeastAbove counts.least_fail w.fails
+    ensures { (w : Workload) → counts.accounts ≡ length w.accounts → counts.procs ≡ length w.procs
+        → IsLeastAbove counts.least_fail w.fails
         → ReadsLine w stage text.now result }
 {
     if let Some(rest) = after(text, b"go") {

@@ -1,10 +1,14 @@
 //! Numbers at the front of a text.
-ghost use Rattle.std.specs.Prelude.{◌≡◌, ◌≢◌, ℕ, ◌==◌, ◌<◌, ◌*◌, ◌+◌, List, ◌++◌, MatchOption, Some, not, ℤ, pos, negsuc, neg_ℤ};
-ghost use Rattle.workload_reader.specs.Fields.{ends_number, DigitsAt, NumberAt, FieldAt, AmountAt, IsAmountWithin, narrowed, Keeps, IsWithin};
+ghost use Rattle.std.specs.Prelude.{◌≡◌, ◌≢◌, ℕ, ◌==◌, ◌<◌, ◌*◌, ◌+◌, ◌^◌, List, ◌++◌, MatchOption, Some, not, ℤ, pos};
+ghost use Rattle.std.specs.Prelude.{negsuc, neg_ℤ};
+ghost use Rattle.split_types.specs.Lines.{numeral};
+ghost use Rattle.workload_reader.specs.Fields.{ends_number, DigitsAt, NumberAt, FieldAt, AmountAt, IsAmountWithin};
+ghost use Rattle.workload_reader.specs.Fields.{narrowed, Keeps, IsWithin};
 
 /// What follows a word that the text begins with.
-pub(crate) fn after<'a>(text: &'a [u8], word: &[u8]) -> Option<&'a [u8]>
-    ensures { MatchOption result ((rest : List ℕ) → text.now ≢ word.now ++ rest) (λ rest. text.now ≡ word.now ++ rest.now) }
+pub fn after<'a>(text: &'a [u8], word: &[u8]) -> Option<&'a [u8]>
+    ensures { MatchOption result ((rest : List ℕ) → text.now ≢ word.now ++ rest)
+        (λ rest. text.now ≡ word.now ++ rest.now) }
 {
     text.strip_prefix(word)
 }
@@ -43,7 +47,7 @@ fn starts_with_digit(text: &[u8]) -> bool
 }
 
 /// The number at the front, where 64 bits hold it, and what follows it.
-pub(crate) fn number(text: &[u8]) -> Option<(Option<u64>, &[u8])>
+pub fn number(text: &[u8]) -> Option<(Option<u64>, &[u8])>
     ensures { MatchOption result ((n : ℕ) (rest : List ℕ) → NumberAt text.now n rest → ⊥)
         (λ r. (n : ℕ) × NumberAt text.now n r.1.now × (r.0 ≡ narrowed n)) }
 {
@@ -74,7 +78,7 @@ fn within(value: Option<u64>, low: u32, high: u32) -> Option<u32>
 }
 
 /// The number at the front, where it is in this range, and what follows it.
-pub(crate) fn counted(text: &[u8], low: u32, high: u32) -> Option<(Option<u32>, &[u8])>
+pub fn counted(text: &[u8], low: u32, high: u32) -> Option<(Option<u32>, &[u8])>
     ensures { MatchOption result ((n : ℕ) (rest : List ℕ) → NumberAt text.now n rest → ⊥)
         (λ r. (n : ℕ) × NumberAt text.now n r.1.now × Keeps (IsWithin low high) n r.0) }
 {
@@ -82,8 +86,16 @@ pub(crate) fn counted(text: &[u8], low: u32, high: u32) -> Option<(Option<u32>, 
     Some((within(value, low, high), rest))
 }
 
+/// The number that is all of the word, where 32 bits hold it.
+pub fn number_of(word: &[u8]) -> Option<u32>
+    ensures { MatchOption result ((n : ℕ) → n < 2 ^ 32 → word.now ≢ numeral n) (λ n. word.now ≡ numeral n) }
+{
+    let (value, rest) = counted(word, 0, u32::MAX)?;
+    if rest.is_empty() { value } else { None }
+}
+
 /// The number behind a space, where it is in this range, and what follows it.
-pub(crate) fn ranged(text: &[u8], low: u32, high: u32) -> Option<(Option<u32>, &[u8])>
+pub fn ranged(text: &[u8], low: u32, high: u32) -> Option<(Option<u32>, &[u8])>
     ensures { MatchOption result ((n : ℕ) (rest : List ℕ) → FieldAt text.now n rest → ⊥)
         (λ r. (n : ℕ) × FieldAt text.now n r.1.now × Keeps (IsWithin low high) n r.0) }
 {
@@ -100,7 +112,8 @@ fn is_zero(value: Option<u64>) -> bool
 
 /// The amount as far below zero as the number is above, where it is at least `-most`.
 fn negated(value: Option<u64>, most: u32) -> Option<i64>
-    ensures { (n : ℕ) → value ≡ narrowed (n + 1) → Keeps (IsAmountWithin (neg_ℤ (pos most)) (pos most)) (negsuc n) result }
+    ensures { (n : ℕ) → value ≡ narrowed (n + 1)
+        → Keeps (IsAmountWithin (neg_ℤ (pos most)) (pos most)) (negsuc n) result }
 {
     let value = within(value, 1, most)?;
     Some(-i64::from(value))
@@ -109,7 +122,8 @@ fn negated(value: Option<u64>, most: u32) -> Option<i64>
 /// The amount below zero whose digits stand at the front, where it is at least `-most`.
 fn negative(text: &[u8], most: u32) -> Option<(Option<i64>, &[u8])>
     ensures { MatchOption result ((n : ℕ) (rest : List ℕ) → NumberAt text.now (n + 1) rest → ⊥)
-        (λ r. (n : ℕ) × NumberAt text.now (n + 1) r.1.now × Keeps (IsAmountWithin (neg_ℤ (pos most)) (pos most)) (negsuc n) r.0) }
+        (λ r. (n : ℕ) × NumberAt text.now (n + 1) r.1.now
+        × Keeps (IsAmountWithin (neg_ℤ (pos most)) (pos most)) (negsuc n) r.0) }
 {
     let (value, rest) = number(text)?;
     if is_zero(value) {

@@ -16,7 +16,7 @@ use crate::seen::Seen;
 use std::alloc::AllocError;
 
 /// Whether the bytes have a newline.
-fn has_newline(bytes: &[u8]) -> bool
+pub fn has_newline(bytes: &[u8]) -> bool
     ensures { result ≡ has_newline bytes.now }
 {
     bytes.iter().any(|byte| *byte == b'\n')

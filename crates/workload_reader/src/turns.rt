@@ -12,7 +12,8 @@ use split_types::{Actor, Go, Pid};
 
 /// The client of the process whose number this is, where it is one of so many.
 fn client_of(by: Option<u32>) -> Result<Actor, Cause>
-    ensures { (p procs : ℕ) → Keeps (IsWithin 1 procs) p by → Weighed IsPlaceInRange (IsActorOf procs) (Actor.Client (record { 0 = p })) result }
+    ensures { (p procs : ℕ) → Keeps (IsWithin 1 procs) p by
+        → Weighed IsPlaceInRange (IsActorOf procs) (Actor.Client (record { 0 = p })) result }
 {
     let by = by.ok_or(Cause::Ref)?;
     Ok(Actor::Client(Pid(by)))
@@ -20,7 +21,8 @@ fn client_of(by: Option<u32>) -> Result<Actor, Cause>
 
 /// The completion at this place in flight, where it is one of the first 16.
 fn completion_of(place: Option<u32>) -> Result<Actor, Cause>
-    ensures { (k procs : ℕ) → Keeps (IsWithin 0 15) k place → Weighed IsPlaceInRange (IsActorOf procs) (Actor.Dn k) result }
+    ensures { (k procs : ℕ) → Keeps (IsWithin 0 15) k place
+        → Weighed IsPlaceInRange (IsActorOf procs) (Actor.Dn k) result }
 {
     let place = place.ok_or(Cause::Range)?;
     Ok(Actor::Dn(place))
@@ -50,7 +52,8 @@ fn actor(text: &[u8], procs: u32) -> Option<(Result<Actor, Cause>, &[u8])>
 
 /// So many turns of an actor whose turns can be given.
 fn go_of(actor: Result<Actor, Cause>, times: Option<u32>) -> Result<Go, Cause>
-    ensures { (g : Go) (procs : ℕ) → Weighed IsPlaceInRange (IsActorOf procs) g.actor actor → Keeps (IsWithin 1 65536) g.times times
+    ensures { (g : Go) (procs : ℕ) → Weighed IsPlaceInRange (IsActorOf procs) g.actor actor
+        → Keeps (IsWithin 1 65536) g.times times
         → Weighed IsGoInRange (λ g. IsActorOf procs g.actor) g result }
 {
     let times = times.ok_or(Cause::Range)?;

@@ -2,8 +2,8 @@ use Rattle.std.proofs.Common.{take}
 use Rattle.std.specs.List.{enumerate_from}
 use Rattle.split_types.specs.Lines.{lines_of}
 use Rattle.split_types.specs.ReportText.{billed_words}
-use Rattle.split_types.specs.Adds.{Adds}
+use Rattle.line_printer.specs.Puts.{Puts}
 use Rattle.billing_report.proofs.numbered.put_billed.Given as goal
 
 abbrev pub invariant-loop-i : goal.invariant-loop-i
-invariant-loop-i l = Adds l.fn.out.items l.out.items (lines_of billed_words (enumerate_from 1 (take l.i l.billed)))
+invariant-loop-i g l = Puts g.P.Printer.due l.fn.out l.out (lines_of billed_words (enumerate_from 1 (take l.i l.billed)))

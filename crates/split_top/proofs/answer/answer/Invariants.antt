@@ -1,4 +1,4 @@
 use Rattle.split_top.proofs.answer.answer.Given as goal
 
 abbrev pub ghosts-replay : goal.ghosts-replay
-ghosts-replay a = record { name = a.blank.name; parts = a.blank.parts }
+ghosts-replay g a = record { name = a.blank.name; parts = a.blank.parts }

@@ -1,13 +1,21 @@
--- The core that is shown has made the run.
-use Rattle.std.proofs.Common.{◌≡◌, ◌∙◌, ap}
-use Rattle.std.proofs.lemmas.Result.{IfOk-weaker}
-use Rattle.split_types.specs.Legal.{drain, play, go_actors}
-use Rattle.split_core.specs.StandsFor.{Simulation}
-use Rattle.split_top.specs.Replay.{text_of}
+-- The sink failed, and took a front of the text.
+use Rattle.std.proofs.Common.{◌≡◌, rules, ap, subst, Err, ◌∙◌}
+use Rattle.split_types.specs.declared.event.Event.{Event}
+use Rattle.split_types.specs.declared.workload.Workload.{Workload}
+use Rattle.std.proofs.Common.{List}
+use Rattle.sink_printer.specs.Due.{Told, Sent}
+use Rattle.split_top.specs.declared.answer.Stop.TheVariants as stop
+use Rattle.split_top.specs.Ready.{IsReady}
+use Rattle.split_top.specs.Replay.{text_of, run_of}
+use Rattle.split_top.proofs.Stops.{fails}
 use Rattle.split_top.proofs.answer.replay.Goals as goal
 
-pub returns : goal.returns
-returns g c =
-    let finished : Simulation → Simulation = λ v. record { workload = v.workload; history = drain v.workload (play v.workload v.history (go_actors v.workload)) } in
-    IfOk-weaker c.text_of.result _ _
-    (λ text is. is ∙ ap (λ (v : Simulation). text_of v.workload v.history) (c.in_ok-finish.ensures ∙ ap finished c.in_ok-core.ensures)) c.text_of.ensures
+pub returns-in_err-send : goal.returns-in_err-send
+returns-in_err-send g c =
+    let told : Told g.row.K.Denot = record { held = g.K.Sink.held; faults = g.K.Sink.faults; room = g.K.Sink.room } in
+    let w = c.args.workload in
+    let core = c.in_ok-core.core in
+    let ready : IsReady w core c.in_ok-core.facts c.in_ok-core.page = c.in_ok-core.ensures in
+    let same : text_of core.workload core.history ≡ text_of w (run_of w) = ap (λ (v : Workload). text_of v core.history) ready.workload ∙ ap (λ (h : List Event). text_of w h) ready.history in
+    let sent = subst (λ t. Sent told c.args.sink.now c.send.new.sink t c.send.result) same c.send.ensures in
+    fails sent c.in_err-send.was (search rules)

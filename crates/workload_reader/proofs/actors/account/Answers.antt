@@ -23,6 +23,11 @@ pub returns : goal.returns
 returns c = (
   record { rate = c.in_ok-rate.ensures.0; cap = c.in_ok-cap.ensures.0; start = c.in_ok-start.ensures.0 },
   tt,
-  cc (c.in_ok-rate.ensures.1.text_is, c.in_ok-cap.ensures.1.text_is, c.in_ok-start.ensures.1.text_is, c.in_ok-rest.ensures),
+  cc (
+    c.in_ok-rate.ensures.1.text_is,
+    c.in_ok-cap.ensures.1.text_is,
+    c.in_ok-start.ensures.1.text_is,
+    c.in_ok-rest.ensures,
+  ),
   c.account_of.ensures _ c.in_ok-rate.ensures.2 c.in_ok-cap.ensures.2 c.in_ok-start.ensures.2,
 )

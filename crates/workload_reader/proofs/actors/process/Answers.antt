@@ -4,7 +4,10 @@ use Rattle.workload_reader.proofs.actors.process.Goals as goal
 
 pub returns-in_err-weight : goal.returns-in_err-weight
 returns-in_err-weight c = rw c.from_residual-in_err-weight.ensures (λ p rest formed e.
-    c.in_err-weight.ensures p.weight _ (record { text_is = after_field p.account _ c.in_ok-account.ensures.1 e refl; ends = refl }))
+    c.in_err-weight.ensures p.weight _ (record {
+      text_is = after_field p.account _ c.in_ok-account.ensures.1 e refl;
+      ends = refl;
+    }))
 
 pub returns-in_err-deadline : goal.returns-in_err-deadline
 returns-in_err-deadline c = rw c.from_residual-in_err-deadline.ensures (λ p rest formed e.
@@ -20,8 +23,17 @@ returns-in_err-rest c = rw c.from_residual-in_err-rest.ensures (λ p rest formed
 
 pub returns : goal.returns
 returns c = (
-  record { account = c.in_ok-account.ensures.0; weight = c.in_ok-weight.ensures.0; deadline = c.in_ok-deadline.ensures.0 },
+  record {
+    account = c.in_ok-account.ensures.0;
+    weight = c.in_ok-weight.ensures.0;
+    deadline = c.in_ok-deadline.ensures.0;
+  },
   tt,
-  cc (c.in_ok-account.ensures.1.text_is, c.in_ok-weight.ensures.1.text_is, c.in_ok-deadline.ensures.1.text_is, c.in_ok-rest.ensures),
+  cc (
+    c.in_ok-account.ensures.1.text_is,
+    c.in_ok-weight.ensures.1.text_is,
+    c.in_ok-deadline.ensures.1.text_is,
+    c.in_ok-rest.ensures,
+  ),
   c.process_of.ensures _ c.args.accounts c.in_ok-account.ensures.2 c.in_ok-weight.ensures.2 c.in_ok-deadline.ensures.2,
 )

@@ -8,7 +8,10 @@ returns-in_err-name c = rw c.from_residual-in_err-name.ensures (λ name off len 
 
 pub returns-in_err-off : goal.returns-in_err-off
 returns-in_err-off c = rw c.from_residual-in_err-off.ensures (λ name off len rest at.
-    c.in_err-off.ensures off _ (record { text_is = after_word name _ c.in_ok-word.ensures at.text_is at.named refl; ends = refl }))
+    c.in_err-off.ensures off _ (record {
+      text_is = after_word name _ c.in_ok-word.ensures at.text_is at.named refl;
+      ends = refl;
+    }))
 
 pub returns-in_err-len : goal.returns-in_err-len
 returns-in_err-len c = rw c.from_residual-in_err-len.ensures (λ name off len rest at.
@@ -17,4 +20,6 @@ returns-in_err-len c = rw c.from_residual-in_err-len.ensures (λ name off len re
     c.in_err-len.ensures len rest (record { text_is = e2; ends = at.ends }))
 
 pub returns-in_err-word : goal.returns-in_err-word
-returns-in_err-word c = rw c.from_residual.ensures (λ name off len rest at. c.in_err-word.ensures name _ (name_is_word _ name _ at.text_is at.named refl))
+returns-in_err-word c =
+    rw c.from_residual.ensures
+    (λ name off len rest at. c.in_err-word.ensures name _ (name_is_word _ name _ at.text_is at.named refl))

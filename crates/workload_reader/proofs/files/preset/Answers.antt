@@ -9,12 +9,18 @@ returns-in_err-name c = rw c.from_residual-in_err-name.ensures (λ f rest named 
 
 pub returns-in_err-pages : goal.returns-in_err-pages
 returns-in_err-pages c = rw c.from_residual-in_err-pages.ensures (λ f rest named e.
-    c.in_err-pages.ensures f.pages _ (record { text_is = after_word f.name _ c.in_ok-word.ensures e named refl; ends = refl }))
+    c.in_err-pages.ensures f.pages _ (record {
+      text_is = after_word f.name _ c.in_ok-word.ensures e named refl;
+      ends = refl;
+    }))
 
 pub returns-in_err-fill : goal.returns-in_err-fill
 returns-in_err-fill c = rw c.from_residual-in_err-fill.ensures (λ f rest named e.
     let e1 = after_word f.name _ c.in_ok-word.ensures e named refl in
-    c.in_err-fill.ensures f.fill _ (record { text_is = after_field f.pages _ c.in_ok-pages.ensures.1 e1 refl; ends = refl }))
+    c.in_err-fill.ensures f.fill _ (record {
+      text_is = after_field f.pages _ c.in_ok-pages.ensures.1 e1 refl;
+      ends = refl;
+    }))
 
 pub returns-in_err-rest : goal.returns-in_err-rest
 returns-in_err-rest c = rw c.from_residual-in_err-rest.ensures (λ f rest named e.
@@ -23,7 +29,8 @@ returns-in_err-rest c = rw c.from_residual-in_err-rest.ensures (λ f rest named 
     c.in_err-rest.ensures rest (after_field f.fill _ c.in_ok-fill.ensures.1 e2 refl))
 
 pub returns-in_err-word : goal.returns-in_err-word
-returns-in_err-word c = rw c.from_residual.ensures (λ f rest named e. c.in_err-word.ensures f.name _ (name_is_word _ f.name _ e named refl))
+returns-in_err-word c =
+    rw c.from_residual.ensures (λ f rest named e. c.in_err-word.ensures f.name _ (name_is_word _ f.name _ e named refl))
 
 pub returns : goal.returns
 returns c = (

@@ -7,10 +7,15 @@ pub loop-i-init : goal.loop-i-init
 loop-i-init c = begun _ _ c.requires (omega arith)
 
 pub loop-i-preserved : goal.loop-i-preserved
-loop-i-preserved c = goes_on _ _ _ _ _ c.loop-i.invariant (omega arith) (sym c.is_ascii_digit.ensures.value ∙ c.if-not-is_ascii_digit.false) c.with_digit-value.ensures
+loop-i-preserved c =
+    goes_on _ _ _ _ _ c.loop-i.invariant (omega arith)
+    (sym c.is_ascii_digit.ensures.value ∙ c.if-not-is_ascii_digit.false) c.with_digit-value.ensures
 
 pub returns-then-not-is_ascii_digit : goal.returns-then-not-is_ascii_digit
-returns-then-not-is_ascii_digit c = rw take_rest (stops_at _ _ _ _ c.loop-i.invariant (omega arith) (sym c.is_ascii_digit.ensures.value ∙ c.if-not-is_ascii_digit.true))
+returns-then-not-is_ascii_digit c =
+    rw take_rest
+    (stops_at _ _ _ _ c.loop-i.invariant (omega arith)
+    (sym c.is_ascii_digit.ensures.value ∙ c.if-not-is_ascii_digit.true))
 
 pub returns : goal.returns
 returns c = rw take_rest (stops_at_end _ _ _ _ c.loop-i.invariant (omega arith))

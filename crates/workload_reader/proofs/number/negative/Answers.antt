@@ -13,5 +13,8 @@ pub returns-else-is_zero : goal.returns-else-is_zero
 returns-else-is_zero c =
     let found = c.in_ok-value.ensures in
     let some = not_zero found.0 (sym (c.is_zero.ensures found.0 found.2) ∙ c.if-is_zero.false) in
-    let one : found.0 ≡ (found.0 - 1) + 1 = omega arith in
-    (found.0 - 1, subst (λ n. NumberAt c.args.text.now n c.in_ok-value.rest.now) one found.1, c.negated.ensures (found.0 - 1) (subst (λ n. c.in_ok-value.value ≡ narrowed n) one found.2))
+    let one : found.0 ≡ (found.0 - 1) + 1 = omega arith in (
+      found.0 - 1,
+      subst (λ n. NumberAt c.args.text.now n c.in_ok-value.rest.now) one found.1,
+      c.negated.ensures (found.0 - 1) (subst (λ n. c.in_ok-value.value ≡ narrowed n) one found.2),
+    )

@@ -9,7 +9,8 @@ returns-in-Some-Err-default c =
     let found = c.in-Some-Err-default.ensures in
     let w : Workload = c.args.self.now.workload in
     let l : Line = found.0 in
-    fails_stop w c.args.self.now.stage _ l _ found.1 found.2 found.3 _ (weighed_fails w l _ (rw c.in-Some-Err-default.field-0-0-is at found.4))
+    fails_stop w c.args.self.now.stage _ l _ found.1 found.2 found.3 _
+    (weighed_fails w l _ (rw c.in-Some-Err-default.field-0-0-is at found.4))
 
 pub returns-in-Some : goal.returns-in-Some
 returns-in-Some c =

@@ -1,0 +1,4 @@
+pub mod Chains
+pub mod Lines
+pub mod Sheets
+pub mod Shared
