@@ -48,7 +48,8 @@ fn put_moved<P: Printer>(out: &mut P, account: &AccountFact)
 /// Prints what is pending in an account, and its balance.
 fn put_standing<P: Printer>(out: &mut P, account: &AccountFact)
     ensures { Puts P.due out.old out.new (fields (
-        codes "pending" ∷ signed_numeral account.now.pending ∷ codes "balance" ∷ signed_numeral account.now.balance ∷ [])) }
+        codes "pending" ∷ signed_numeral account.now.pending ∷ codes "balance" ∷ signed_numeral account.now.balance ∷
+        [])) }
 {
     put_named(out, b"pending", account.pending);
     put_named(out, b"balance", account.balance);

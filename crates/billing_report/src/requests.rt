@@ -50,7 +50,8 @@ fn put_what<P: Printer>(out: &mut P, req: &Request)
 
 /// Prints what came of a request, each word behind a space.
 fn put_outcome<P: Printer>(out: &mut P, f: &ReqFact)
-    ensures { Puts P.due out.old out.new (fields (state_word f.now.state ∷ numeral f.now.cost ∷ map share_word f.now.shares)) }
+    ensures { Puts P.due out.old out.new (fields (state_word f.now.state ∷ numeral f.now.cost ∷ map share_word
+        f.now.shares)) }
 {
     put_word(out, state_word(f.state));
     put_number(out, f.cost);

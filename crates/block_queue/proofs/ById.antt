@@ -32,20 +32,32 @@ module _ (rs : List Request) (up : IsById rs) (id : ReqId) where
       grind (arith, nat_tests)
 
   -- a binary search for an id that a request has ends at one
-  pub search_ends : Any (λ r. r.id ≡ id) rs → (r : Result ℕ ℕ) → IsBinarySearchResult (λ q. nat_cmp q.id.0 id.0) rs r → IsOk r
+  pub search_ends : Any (λ r. r.id ≡ id) rs → (r : Result ℕ ℕ) → IsBinarySearchResult (λ q. nat_cmp q.id.0 id.0) rs r
+      → IsOk r
   search_ends some (Ok at) equal = refl
   search_ends some (Err at) parted =
       let there : (get_or rs some.0 some.1).id.0 ≡ id.0 = ap (λ q. q.id.0) some.3 ∙ ap (λ i. i.0) some.4 in
       elim (cases_lt some.0 at) [
-        | inl below ↦ absurd (omega (arith, ranked _ id.0 Less (sym ((parted ids_rise).0 some.0 some.1 (omega arith) below))))
-        | inr above ↦ absurd (omega (arith, ranked _ id.0 Greater (sym ((parted ids_rise).1 some.0 some.1 above some.2))))
+        | inl below ↦ absurd (omega (
+          arith,
+          ranked _ id.0 Less
+              (sym ((parted ids_rise).0 some.0 some.1 (omega arith) below)),
+        ))
+        | inr above ↦ absurd (omega (
+          arith,
+          ranked _ id.0 Greater
+              (sym ((parted ids_rise).1 some.0 some.1 above some.2)),
+        ))
       ]
 
 -- where it ends is a request of that id
-pub search_finds : (rs : List Request) (id : ReqId) (d : Request) (r : Result ℕ ℕ) (at : ℕ) → r ≡ Ok at → IsSearchInRange r (length rs) → IsBinarySearchResult (λ q. nat_cmp q.id.0 id.0) rs r → IsSomeAnd (slice_get rs at) (λ q. q.id ≡ id)
+pub search_finds : (rs : List Request) (id : ReqId) (d : Request) (r : Result ℕ ℕ) (at : ℕ) → r ≡ Ok at
+    → IsSearchInRange r (length rs) → IsBinarySearchResult (λ q. nat_cmp q.id.0 id.0) rs r
+    → IsSomeAnd (slice_get rs at) (λ q. q.id ≡ id)
 search_finds rs id d r at is within found =
     let inside : at < length rs = subst (λ x. IsSearchInRange x (length rs)) is within in
-    let equal : HoldsAt (λ q. nat_cmp q.id.0 id.0 ≡ Equal) rs at = subst (IsBinarySearchResult (λ q. nat_cmp q.id.0 id.0) rs) is found in
+    let equal : HoldsAt (λ q. nat_cmp q.id.0 id.0 ≡ Equal) rs at =
+    subst (IsBinarySearchResult (λ q. nat_cmp q.id.0 id.0) rs) is found in
     rw (slice_get-get_or rs at d inside) (same_id _ _ (ranked _ id.0 Equal (sym (equal d))))
 
 -- one request at most has an id
@@ -53,9 +65,18 @@ pub once : (rs : List Request) (id : ReqId) → IsById rs → count_by (is_numbe
 once [] id up = omega arith
 once (r ∷ rs) id up = elim (cases_Bool (is_numbered id r)) [
   | inl here ↦
-      (let later : All (λ q. is_numbered id q ≡ false) rs = λ k d within. let less = up 0 (suc k) d (omega arith) (omega arith) in grind (arith, nat_tests, here) in
-      omega (arith, count_yes (is_numbered id) r rs here, count_none (is_numbered id) rs (list_any_none (is_numbered id) rs later)))
-  | inr past ↦ omega (arith, count_no (is_numbered id) r rs past, once rs id (λ i j d less within. up (suc i) (suc j) d (omega arith) (omega arith)))
+      (let later : All (λ q. is_numbered id q ≡ false) rs = λ k d within. let less =
+      up 0 (suc k) d (omega arith) (omega arith) in grind (arith, nat_tests, here) in
+      omega (
+        arith,
+        count_yes (is_numbered id) r rs here,
+        count_none (is_numbered id) rs (list_any_none (is_numbered id) rs later),
+      ))
+  | inr past ↦ omega (
+    arith,
+    count_no (is_numbered id) r rs past,
+    once rs id (λ i j d less within. up (suc i) (suc j) d (omega arith) (omega arith)),
+  )
 ]
 
 -- two filters in either order
@@ -63,13 +84,15 @@ pub filter_comm : {X : Type 0} (p q : X → Bool) (xs : List X) → filter p (fi
 filter_comm p q [] = refl
 filter_comm p q (x ∷ xs) = by_tests (p x) (q x) refl refl (filter_comm p q xs)
   where
-    by_tests : (a b : Bool) → p x ≡ a → q x ≡ b → filter p (filter q xs) ≡ filter q (filter p xs) → filter p (cond b (x ∷ filter q xs) (filter q xs)) ≡ filter q (cond a (x ∷ filter p xs) (filter p xs))
+    by_tests : (a b : Bool) → p x ≡ a → q x ≡ b → filter p (filter q xs) ≡ filter q (filter p xs)
+        → filter p (cond b (x ∷ filter q xs) (filter q xs)) ≡ filter q (cond a (x ∷ filter p xs) (filter p xs))
     by_tests true true pa qb rest = rw (pa, qb) (ap (λ l. x ∷ l) rest)
     by_tests true false pa qb rest = rw qb rest
     by_tests false true pa qb rest = rw pa rest
     by_tests false false pa qb rest = rest
 
-module _ (p : Request → Bool) (rs : List Request) (id : ReqId) (r : Request) (kept : filter (is_numbered id) rs ≡ r ∷ []) where
+module _ (p : Request → Bool) (rs : List Request) (id : ReqId) (r : Request) (kept : filter (is_numbered id) rs
+    ≡ r ∷ []) where
   both : filter (is_numbered id) (filter p rs) ≡ filter p (r ∷ [])
   both = filter_comm (is_numbered id) p rs ∙ ap (filter p) kept
 
@@ -77,16 +100,26 @@ module _ (p : Request → Bool) (rs : List Request) (id : ReqId) (r : Request) (
   pub any_passing : p r ≡ true → Any (λ q. q.id ≡ id) (filter p rs)
   any_passing passes =
       let first : slice_get (filter (is_numbered id) (filter p rs)) 0 ≡ Some r = rw (both, passes) refl in
-      let found = filter_there (is_numbered id) (filter p rs) 0 r first in
-      (found.0, r, slice_get_within (filter p rs) found.0 r found.1, get_or_from_slice_get (filter p rs) found.0 r r found.1, same_id r.id id (grind (arith, nat_tests, found.2)))
+      let found = filter_there (is_numbered id) (filter p rs) 0 r first in (
+        found.0,
+        r,
+        slice_get_within (filter p rs) found.0 r found.1,
+        get_or_from_slice_get (filter p rs) found.0 r r found.1,
+        same_id r.id id (grind (arith, nat_tests, found.2)),
+      )
 
   -- where it fails, those that pass are as many without it
   pub same_passing : p r ≡ false → filter p rs ≡ filter p (filter (λ q. not (is_numbered id q)) rs)
   same_passing fails =
       let none : filter (is_numbered id) (filter p rs) ≡ [] = both ∙ ap (λ b. cond b (r ∷ []) []) fails in
-      let count : count_by (is_numbered id) (filter p rs) ≡ 0 = omega (arith, length-filter (is_numbered id) (filter p rs), ap length none) in
+      let count : count_by (is_numbered id) (filter p rs) ≡ 0 =
+      omega (arith, length-filter (is_numbered id) (filter p rs), ap length none) in
       sym (filter_none (is_numbered id) (filter p rs) count).1 ∙ filter_comm (λ q. not (is_numbered id q)) p rs
 
   -- one request fewer
   pub one_fewer : length (filter (λ q. not (is_numbered id q)) rs) + 1 ≡ length rs
-  one_fewer = omega (arith, length-filter_both (is_numbered id) (λ q. not (is_numbered id q)) (λ q. refl) rs, ap length kept)
+  one_fewer = omega (
+    arith,
+    length-filter_both (is_numbered id) (λ q. not (is_numbered id q)) (λ q. refl) rs,
+    ap length kept,
+  )

@@ -8,7 +8,8 @@ use lib.Seq.{paste}
 
 module _ {X : Type 0} (xs : List X) (start : ℕ) where
   -- the i elements behind the front moved up by one, over the next one
-  pub drop-moved_up : (i : ℕ) → start + i < length xs → drop (start + 1) (paste xs (start + 1) (drop start xs) i) ≡ remove (drop start xs) i
+  pub drop-moved_up : (i : ℕ) → start + i < length xs → drop (start + 1) (paste xs (start + 1) (drop start xs) i)
+      ≡ remove (drop start xs) i
   drop-moved_up i within =
       let next : start + 1 + i ≡ start + suc i = omega arith in
       ap (drop (start + 1)) (append_assoc (take (start + 1) xs) (take i (drop start xs)) (drop (start + 1 + i) xs))
@@ -25,6 +26,8 @@ module _ {X : Type 0} (xs : List X) (start : ℕ) where
       ∙ drop_at (take start xs) _ start front ∙ ap (remove (drop start xs)) rest
 
   -- an element behind the front
-  pub slice_get-behind : (i : ℕ) (x : X) → start + i < length xs → x ≡ get_or xs (start + i) x → slice_get (drop start xs) i ≡ Some x
+  pub slice_get-behind : (i : ℕ) (x : X) → start + i < length xs → x ≡ get_or xs (start + i) x
+      → slice_get (drop start xs) i ≡ Some x
   slice_get-behind i x within is =
-      slice_get-get_or (drop start xs) i x (omega (arith, length-drop start xs)) ∙ ap (λ y. Some y) (get_or-drop start xs i x ∙ sym is)
+      slice_get-get_or (drop start xs) i x (omega (arith, length-drop start xs))
+      ∙ ap (λ y. Some y) (get_or-drop start xs i x ∙ sym is)

@@ -3,7 +3,8 @@ use Rattle.std.specs.Prelude.{ℕ, ◌<◌, List, Bool, not, AllPairs}
 use Rattle.split_types.specs.declared.request.Request.{Request}
 use Rattle.split_types.specs.Requests.{is_write}
 
--- the requests that wait, by id; those in flight, each with its cost, in the order of their sends; the least id that may be
+-- the requests that wait, by id; those in flight, each with its cost, in the order of their sends; the least id that
+-- may be
 -- added next; and for how many more requests there is room
 pub record Backlog : Type 0 where
   pub queued : List Request

@@ -4,9 +4,16 @@ use Rattle.block_queue.specs.Backlog.{Backlog, is_read}
 use Rattle.block_queue.specs.declared.queue.Queue.TheInside.{Inside}
 
 abbrev pub backlog_of : Inside → Backlog
-backlog_of q = record { queued = q.queued.requests; in_flight = q.in_flight.items; next_id = q.next_id; spare = q.spare }
+backlog_of q = record {
+  queued = q.queued.requests;
+  in_flight = q.in_flight.items;
+  next_id = q.next_id;
+  spare =
+      q.spare;
+}
 
--- all ids that wait are below the next one; the reads stand twice; all requests have ids below the next one, so that there are no
+-- all ids that wait are below the next one; the reads stand twice; all requests have ids below the next one, so that
+-- there are no
 -- more of them; each has a place among those in flight; and there is the room that was promised
 pub record IsKept (q : Inside) : Type 0 where
   pub below : All (λ r. r.id.0 < q.next_id) q.queued.requests

@@ -100,7 +100,8 @@ impl Queue {
     pub fn send(&mut self, id: ReqId, cost: u64)
         requires { Any (λ r. r.id ≡ id) self.old.queued }
         ensures queued { self.new.queued ≡ filter (λ r. not (is_numbered id r)) self.old.queued }
-        ensures in_flight { self.new.in_flight ≡ self.old.in_flight ++ map (λ r. (r, cost)) (filter (is_numbered id) self.old.queued) }
+        ensures in_flight { self.new.in_flight ≡ self.old.in_flight
+            ++ map (λ r. (r, cost)) (filter (is_numbered id) self.old.queued) }
         ensures next_id { self.new.next_id ≡ self.old.next_id }
         ensures spare { self.old.spare ≤ self.new.spare }
     {

@@ -23,7 +23,8 @@ is_set-with_bit-same words i within =
       bit_at_set_same w64 (get_or words (i / 64) 0) (i % 64) (omega arith),
     ) refl
 
-is_set-with_bit-other : (words : List ℕ) (i k : ℕ) → i < 64 * length words → k ≢ i → is_set (with_bit words i) k ≡ is_set words k
+is_set-with_bit-other : (words : List ℕ) (i k : ℕ) → i < 64 * length words → k ≢ i
+    → is_set (with_bit words i) k ≡ is_set words k
 unfolding with_bit
 is_set-with_bit-other words i k within other =
     let inside : i / 64 < length words = omega arith in
@@ -32,11 +33,15 @@ is_set-with_bit-other words i k within other =
       | inl same ↦
           let apart : k % 64 ≢ i % 64 = omega (arith, other) in
           rw same
-          (rw (get_or-set_same words (i / 64) word 0 inside, bit_at_set_other w64 (get_or words (i / 64) 0) (i % 64) (omega arith) (k % 64) apart) refl)
+          (rw (
+            get_or-set_same words (i / 64) word 0 inside,
+            bit_at_set_other w64 (get_or words (i / 64) 0) (i % 64) (omega arith) (k % 64) apart,
+          ) refl)
       | inr apart ↦ rw (get_or-set_other words (i / 64) (k / 64) word 0 apart) refl
     ]
 
-pub is_set-with_bit : (words : List ℕ) (i : ℕ) → i < 64 * length words → (k : ℕ) → is_set (with_bit words i) k ≡ (if k == i then true else is_set words k)
+pub is_set-with_bit : (words : List ℕ) (i : ℕ) → i < 64 * length words → (k : ℕ)
+    → is_set (with_bit words i) k ≡ (if k == i then true else is_set words k)
 is_set-with_bit words i within k =
     elim (eqb_tells k i) [
       | inl here ↦ rw here.0 (rw here.1 (is_set-with_bit-same words i within))
@@ -48,11 +53,13 @@ unfolding without_bit
 is_set-without_bit-same words i within =
     let inside : i / 64 < length words = omega arith in
     rw (
-      get_or-set_same words (i / 64) (bit_and (get_or words (i / 64) 0) (bit_not w64 (1 * 2 ^ (i % 64) % 2 ^ 64))) 0 inside,
+      get_or-set_same words (i / 64) (bit_and (get_or words (i / 64) 0) (bit_not w64 (1 * 2 ^ (i % 64) % 2 ^ 64))) 0
+          inside,
       bit_at_clear_same w64 (get_or words (i / 64) 0) (i % 64) (omega arith),
     ) refl
 
-is_set-without_bit-other : (words : List ℕ) (i k : ℕ) → i < 64 * length words → k ≢ i → is_set (without_bit words i) k ≡ is_set words k
+is_set-without_bit-other : (words : List ℕ) (i k : ℕ) → i < 64 * length words → k ≢ i
+    → is_set (without_bit words i) k ≡ is_set words k
 unfolding without_bit
 is_set-without_bit-other words i k within other =
     let inside : i / 64 < length words = omega arith in
@@ -61,11 +68,16 @@ is_set-without_bit-other words i k within other =
       | inl same ↦
           let apart : k % 64 ≢ i % 64 = omega (arith, other) in
           rw same
-          (rw (get_or-set_same words (i / 64) word 0 inside, bit_at_clear_other w64 (get_or words (i / 64) 0) (i % 64) (omega arith) (k % 64) (omega arith) apart) refl)
+          (rw (
+            get_or-set_same words (i / 64) word 0 inside,
+            bit_at_clear_other w64 (get_or words (i / 64) 0) (i % 64) (omega arith) (k % 64) (omega arith) apart,
+          )
+          refl)
       | inr apart ↦ rw (get_or-set_other words (i / 64) (k / 64) word 0 apart) refl
     ]
 
-pub is_set-without_bit : (words : List ℕ) (i : ℕ) → i < 64 * length words → (k : ℕ) → is_set (without_bit words i) k ≡ (if k == i then false else is_set words k)
+pub is_set-without_bit : (words : List ℕ) (i : ℕ) → i < 64 * length words → (k : ℕ)
+    → is_set (without_bit words i) k ≡ (if k == i then false else is_set words k)
 is_set-without_bit words i within k =
     elim (eqb_tells k i) [
       | inl here ↦ rw here.0 (rw here.1 (is_set-without_bit-same words i within))
@@ -82,27 +94,32 @@ set-none words i h = rw (h, bit_at-zero (i % 64)) refl
 
 other_word : (words : List ℕ) (i k : ℕ) → k ≢ i / 64 → get_or (with_bit words i) k 0 ≡ get_or words k 0
 unfolding with_bit
-other_word words i k other = get_or-set_other words (i / 64) k (bit_or (get_or words (i / 64) 0) (1 * 2 ^ (i % 64) % 2 ^ 64)) 0 other
+other_word words i k other = get_or-set_other words (i / 64) k
+    (bit_or (get_or words (i / 64) 0) (1 * 2 ^ (i % 64) % 2 ^ 64)) 0 other
 
 other_word_cleared : (words : List ℕ) (i k : ℕ) → k ≢ i / 64 → get_or (without_bit words i) k 0 ≡ get_or words k 0
 unfolding without_bit
-other_word_cleared words i k other = get_or-set_other words (i / 64) k (bit_and (get_or words (i / 64) 0) (bit_not w64 (1 * 2 ^ (i % 64) % 2 ^ 64))) 0 other
+other_word_cleared words i k other = get_or-set_other words (i / 64) k
+    (bit_and (get_or words (i / 64) 0) (bit_not w64 (1 * 2 ^ (i % 64) % 2 ^ 64))) 0 other
 
 -- a bit that is set comes with its bit on top
-pub tops-set : (words tops : List ℕ) (i : ℕ) → i < 64 * length words → length words ≤ 64 * length tops → AreTops words tops
+pub tops-set : (words tops : List ℕ) (i : ℕ) → i < 64 * length words → length words ≤ 64 * length tops
+    → AreTops words tops
     → AreTops (with_bit words i) (with_bit tops (i / 64))
 tops-set words tops i within few are k =
     let top_within : i / 64 < 64 * length tops = omega arith in
     rw (is_set-with_bit tops (i / 64) top_within k)
     (elim (eqb_tells k (i / 64)) [
       | inl here ↦
-          let some : 0 < get_or (with_bit words i) (i / 64) 0 = set-positive (with_bit words i) i (is_set-with_bit-same words i within) in
+          let some : 0 < get_or (with_bit words i) (i / 64) 0 =
+          set-positive (with_bit words i) i (is_set-with_bit-same words i within) in
           rw here.0 (rw here.1 (grind (arith, nat_tests)))
       | inr other ↦ rw other.0 (rw (other_word words i k other.1) (are k))
     ])
 
 -- the last bit of a word goes with its bit on top
-pub tops-cleared : (words tops : List ℕ) (i : ℕ) → i < 64 * length words → length words ≤ 64 * length tops → get_or (without_bit words i) (i / 64) 0 ≡ 0 → AreTops words tops
+pub tops-cleared : (words tops : List ℕ) (i : ℕ) → i < 64 * length words → length words ≤ 64 * length tops
+    → get_or (without_bit words i) (i / 64) 0 ≡ 0 → AreTops words tops
     → AreTops (without_bit words i) (without_bit tops (i / 64))
 tops-cleared words tops i within few gone are k =
     let top_within : i / 64 < 64 * length tops = omega arith in
@@ -117,7 +134,8 @@ and-positive zero b h = let no = and_zero_l b in absurd (omega arith)
 and-positive (suc a) b h = omega arith
 
 -- a word that has bits left had some before
-left-positive : (words : List ℕ) (i : ℕ) → i < 64 * length words → 0 < get_or (without_bit words i) (i / 64) 0 → 0 < get_or words (i / 64) 0
+left-positive : (words : List ℕ) (i : ℕ) → i < 64 * length words → 0 < get_or (without_bit words i) (i / 64) 0
+    → 0 < get_or words (i / 64) 0
 unfolding without_bit
 left-positive words i within some =
     let word = bit_and (get_or words (i / 64) 0) (bit_not w64 (1 * 2 ^ (i % 64) % 2 ^ 64)) in
@@ -126,7 +144,8 @@ left-positive words i within some =
     and-positive (get_or words (i / 64) 0) (bit_not w64 (1 * 2 ^ (i % 64) % 2 ^ 64)) (subst (λ w. 0 < w) left some)
 
 -- where a word still has bits, its bit on top stays
-pub tops-kept : (words tops : List ℕ) (i : ℕ) → i < 64 * length words → 0 < get_or (without_bit words i) (i / 64) 0 → AreTops words tops
+pub tops-kept : (words tops : List ℕ) (i : ℕ) → i < 64 * length words → 0 < get_or (without_bit words i) (i / 64) 0
+    → AreTops words tops
     → AreTops (without_bit words i) tops
 tops-kept words tops i within some are k =
     elim (eqb_tells k (i / 64)) [
@@ -137,7 +156,8 @@ tops-kept words tops i within some are k =
     ]
 
 -- the least bit of the first word that isn't 0 is the least of all
-pub first-of_word : (words : List ℕ) (at : ℕ) → 0 < get_or words at 0 → get_or words at 0 < 2 ^ 64 → ((k : ℕ) → k < at → get_or words k 0 ≡ 0)
+pub first-of_word : (words : List ℕ) (at : ℕ) → 0 < get_or words at 0 → get_or words at 0 < 2 ^ 64
+    → ((k : ℕ) → k < at → get_or words k 0 ≡ 0)
     → IsFirstSet words (64 * at + trailing_zeros w64 (get_or words at 0))
 first-of_word words at some fits below =
     let zeros = trailing_zeros w64 (get_or words at 0) in
@@ -160,11 +180,13 @@ pub word-within : (words tops : List ℕ) (at : ℕ) → AreTops words tops → 
 word-within words tops at are set =
     elim (cases_lt at (length words)) [
       | inl inside ↦ inside
-      | inr past ↦ let no : get_or words at 0 ≡ 0 = get_or_past words at 0 past in let e = are at in absurd (grind (arith, nat_tests))
+      | inr past ↦ let no : get_or words at 0 ≡ 0 = get_or_past words at 0 past in let e = are at in
+          absurd (grind (arith, nat_tests))
     ]
 
 -- a bit on top leads to the least bit of all
-pub first-of_tops : (words tops : List ℕ) (at : ℕ) → AreTops words tops → IsFirstSet tops at → get_or words at 0 < 2 ^ 64
+pub first-of_tops : (words tops : List ℕ) (at : ℕ) → AreTops words tops → IsFirstSet tops at
+    → get_or words at 0 < 2 ^ 64
     → IsFirstSet words (64 * at + trailing_zeros w64 (get_or words at 0))
 first-of_tops words tops at are top fits =
     let some : 0 < get_or words at 0 = let e = are at in let h = top.set in grind (arith, nat_tests) in

@@ -17,28 +17,35 @@ use Rattle.delayed_alloc.specs.Held.{unfree_state, state_of, states_of, AreHeld}
 use Rattle.delayed_alloc.proofs.HeldLaws.{length-states_of, read_within, found, none_past, found-state, counted-set, states-freed, waiting-within, waiting-unset, free-set, set-within}
 
 -- a block that is freed becomes what it was to become
-pub settled-freed : (words words' : List ℕ) (waits : List (Option Awaited)) (unused reserved block : ℕ) (t : Txn) → AreHeld words waits unused reserved
-    → get_or waits block None ≡ Some (record { 0 = t }) → ((k : ℕ) → is_set words' k ≡ (if k == block then true else is_set words k))
+pub settled-freed : (words words' : List ℕ) (waits : List (Option Awaited)) (unused reserved block : ℕ) (t : Txn)
+    → AreHeld words waits unused reserved
+    → get_or waits block None ≡ Some (record { 0 = t })
+    → ((k : ℕ) → is_set words' k ≡ (if k == block then true else is_set words k))
     → map (settled t) (states_of words' (set waits block None)) ≡ map (settled t) (states_of words waits)
 settled-freed words words' waits unused reserved block t held waiting bits =
     let within = waiting-within waits block (record { 0 = t }) waiting in
     let off = waiting-unset words waits unused reserved block (record { 0 = t }) held waiting in
-    let was : get_or (states_of words waits) block Free ≡ Waiting t = read_within words waits block Free within ∙ rw (off, waiting) refl in
-    let free : settled t Free ≡ settled t (get_or (states_of words waits) block Free) = rw was (grind (arith, nat_tests)) in
-    rw (states-freed words words' waits block within bits) (map-set_same (settled t) (states_of words waits) block Free Free free)
+    let was : get_or (states_of words waits) block Free ≡ Waiting t = read_within words waits block Free within
+    ∙ rw (off, waiting) refl in
+    let free : settled t Free ≡ settled t (get_or (states_of words waits) block Free) =
+    rw was (grind (arith, nat_tests)) in
+    rw (states-freed words words' waits block within bits)
+    (map-set_same (settled t) (states_of words waits) block Free Free free)
 
 -- where no block waits for the transaction, all are what they were to become
 pub settled-all : (words : List ℕ) (waits : List (Option Awaited)) (t : Txn) → IsAbsent waits (record { 0 = t })
     → map (settled t) (states_of words waits) ≡ states_of words waits
 settled-all words waits t absent = go (range_with_len 0 (length waits)) where
-  unchanged : (wait : Option Awaited) → (wait ≡ Some (record { 0 = t }) → ⊥) → settled t (unfree_state wait) ≡ unfree_state wait
+  unchanged : (wait : Option Awaited) → (wait ≡ Some (record { 0 = t }) → ⊥)
+      → settled t (unfree_state wait) ≡ unfree_state wait
   unchanged None not = refl
   unchanged (Some a) not = elim (eqb_tells a.0.0 t.0) [
     | inl same ↦ absurd (not (ap (λ n. let b : Awaited = record { 0 = record { 0 = n } } in Some b) same.1))
     | inr other ↦ rw other.0 refl
   ]
 
-  one : (set : Bool) (block : ℕ) → settled t (if set then Free else unfree_state (get_or waits block None)) ≡ (if set then Free else unfree_state (get_or waits block None))
+  one : (set : Bool) (block : ℕ) → settled t (if set then Free else unfree_state (get_or waits block None))
+      ≡ (if set then Free else unfree_state (get_or waits block None))
   one true block = refl
   one false block = unchanged (get_or waits block None) (absent block)
 
@@ -47,8 +54,10 @@ settled-all words waits t absent = go (range_with_len 0 (length waits)) where
   go (b ∷ bs) = rw (one (is_set words b) b, go bs) refl
 
 -- the free blocks that a run takes
-count-run : (old new : List State) (first m : ℕ) → length new ≡ length old → first + m ≤ length old → ((i : ℕ) (d : State) → i < m → get_or old (first + i) d ≡ Free)
-    → ((i : ℕ) (d : State) → i < m → get_or new (first + i) d ≡ Taken) → ((k : ℕ) (d : State) → (k < first) ⊎ (first + m ≤ k) → get_or new k d ≡ get_or old k d)
+count-run : (old new : List State) (first m : ℕ) → length new ≡ length old → first + m ≤ length old
+    → ((i : ℕ) (d : State) → i < m → get_or old (first + i) d ≡ Free)
+    → ((i : ℕ) (d : State) → i < m → get_or new (first + i) d ≡ Taken)
+    → ((k : ℕ) (d : State) → (k < first) ⊎ (first + m ≤ k) → get_or new k d ≡ get_or old k d)
     → count_by is_free new + m ≡ count_by is_free old
 count-run old new first zero len within free taken others =
     let same : new ≡ old = same_lists new old len (λ k d inside. elim (cases_lt k first) [
@@ -64,7 +73,8 @@ count-run old new first (suc m) len within free taken others =
     let inside : at < length new = omega arith in
     let before = count-run old last first m (last_len ∙ len) (omega arith)
     (λ i d lower. free i d (omega arith))
-    (λ i d lower. let apart : first + i ≢ at = omega arith in get_or-set_other new at (first + i) Free d apart ∙ taken i d (omega arith))
+    (λ i d lower. let apart : first + i ≢ at = omega arith in get_or-set_other new at (first + i) Free d apart
+    ∙ taken i d (omega arith))
     (λ k d outside. elim (cases_eq k at) [
       | inl same ↦ rw same (get_or-set_same new at Free d inside ∙ sym (free m d (omega arith)))
       | inr apart ↦ get_or-set_other new at k Free d apart ∙ others k d (elim outside [
@@ -75,26 +85,34 @@ count-run old new first (suc m) len within free taken others =
     let more = counted-set new at Free Taken inside (taken m Free (omega arith)) in
     omega arith
 
-run-set : (words : List ℕ) (waits : List (Option Awaited)) (unused reserved n first m : ℕ) → AreHeld words waits unused reserved
-    → IsLeastRun (record { states = states_of words waits; reserved = reserved }) n first m → (b : ℕ) → first ≤ b → b < first + m → is_set words b ≡ true
+run-set : (words : List ℕ) (waits : List (Option Awaited)) (unused reserved n first m : ℕ)
+    → AreHeld words waits unused reserved
+    → IsLeastRun (record { states = states_of words waits; reserved = reserved }) n first m → (b : ℕ) → first ≤ b
+    → b < first + m → is_set words b ≡ true
 run-set words waits unused reserved n first m held run b from to =
     free-set words waits b (run.free b from to)
 
 -- the least run is within the disk
-pub run-within : (words : List ℕ) (waits : List (Option Awaited)) (unused reserved n first m : ℕ) → AreHeld words waits unused reserved
+pub run-within : (words : List ℕ) (waits : List (Option Awaited)) (unused reserved n first m : ℕ)
+    → AreHeld words waits unused reserved
     → IsLeastRun (record { states = states_of words waits; reserved = reserved }) n first m → first + m ≤ length waits
 run-within words waits unused reserved n first m held run =
     let some = run.some in
-    let last = set-within words waits unused reserved (first + (m - 1)) held (run-set words waits unused reserved n first m held run (first + (m - 1)) (omega arith) (omega arith)) in
+    let last = set-within words waits unused reserved (first + (m - 1)) held
+    (run-set words waits unused reserved n first m held run (first + (m - 1)) (omega arith) (omega arith)) in
     omega arith
 
-state-cleared : (words words' : List ℕ) (waits : List (Option Awaited)) (block : ℕ) → is_set words' block ≡ false → get_or waits block None ≡ None → state_of words' waits block ≡ Taken
+state-cleared : (words words' : List ℕ) (waits : List (Option Awaited)) (block : ℕ) → is_set words' block ≡ false
+    → get_or waits block None ≡ None → state_of words' waits block ≡ Taken
 state-cleared words words' waits block off none = rw (off, none) refl
 
 -- the run that was least is taken
-module _ (words words' : List ℕ) (waits : List (Option Awaited)) (unused reserved n first m : ℕ) (held : AreHeld words waits unused reserved)
-    (run : IsLeastRun (record { states = states_of words waits; reserved = reserved }) n first m) (promised : n ≤ reserved) (len : length words' ≡ length words)
-    (cleared : (b : ℕ) → first ≤ b → b < first + m → is_set words' b ≡ false) (others : (b : ℕ) → (b < first) ⊎ (first + m ≤ b) → is_set words' b ≡ is_set words b) where
+module _ (words words' : List ℕ) (waits : List (Option Awaited)) (unused reserved n first m : ℕ)
+    (held : AreHeld words waits unused reserved)
+    (run : IsLeastRun (record { states = states_of words waits; reserved = reserved }) n first m)
+    (promised : n ≤ reserved) (len : length words' ≡ length words)
+    (cleared : (b : ℕ) → first ≤ b → b < first + m → is_set words' b ≡ false) (others : (b : ℕ)
+    → (b < first) ⊎ (first + m ≤ b) → is_set words' b ≡ is_set words b) where
   within : first + m ≤ length waits
   within = run-within words waits unused reserved n first m held run
 
@@ -120,40 +138,48 @@ module _ (words words' : List ℕ) (waits : List (Option Awaited)) (unused reser
   fewer =
       let old_len = length-states_of words waits in
       let new_len = length-states_of words' waits in
-      count-run (states_of words waits) (states_of words' waits) first m (new_len ∙ sym old_len) (let w = within in omega arith)
+      count-run (states_of words waits) (states_of words' waits) first m (new_len ∙ sym old_len) (let w = within in
+      omega arith)
       (λ i d lower. let w = within in
-      read_within words waits (first + i) d (omega arith) ∙ (found-state words waits (first + i) Free (run.free (first + i) (omega arith) (omega arith))).1)
-      (λ i d lower. let w = within in read_within words' waits (first + i) d (omega arith) ∙ taken (first + i) (omega arith) (omega arith))
+      read_within words waits (first + i) d (omega arith)
+      ∙ (found-state words waits (first + i) Free (run.free (first + i) (omega arith) (omega arith))).1)
+      (λ i d lower. let w = within in read_within words' waits (first + i) d (omega arith)
+      ∙ taken (first + i) (omega arith) (omega arith))
       (λ k d outside. elim (cases_lt k (length waits)) [
         | inl inside ↦ read_within words' waits k d inside ∙ stays k outside ∙ sym (read_within words waits k d inside)
-        | inr past ↦ get_or_past (states_of words' waits) k d (omega arith) ∙ sym (get_or_past (states_of words waits) k d (omega arith))
+        | inr past ↦ get_or_past (states_of words' waits) k d (omega arith)
+            ∙ sym (get_or_past (states_of words waits) k d (omega arith))
       ])
 
   pub held-taken : AreHeld words' waits (unused - m) (reserved - m)
   held-taken = record {
     few = held.few;
     room = rw len held.room;
-    outside = λ k past. false_from_ne_true (is_set words' k) (λ on. let was = new_bits k on in let off = held.outside k past in absurd (cc));
+    outside = λ k past. false_from_ne_true (is_set words' k) (λ on. let was = new_bits k on in
+        let off = held.outside k past in absurd (cc));
     apart = λ k on. held.apart k (new_bits k on);
     counted = let f = fewer in let c = held.counted in omega arith;
     enough = let e = held.enough in let r = run.most in omega arith;
   }
 
-  pub takes_run : TakesRun (record { states = states_of words waits; reserved = reserved }) (record { states = states_of words' waits; reserved = reserved - m }) first m
+  pub takes_run : TakesRun (record { states = states_of words waits; reserved = reserved })
+      (record { states = states_of words' waits; reserved = reserved - m }) first m
   takes_run =
       let w = within in
       record {
         blocks = length-states_of words' waits ∙ sym (length-states_of words waits);
         run = λ b from to. found words' waits b (omega arith) ∙ ap (λ s. Some s) (taken b from to);
         others = λ k outside. elim (cases_lt k (length waits)) [
-          | inl inside ↦ found words' waits k inside ∙ ap (λ s. Some s) (stays k outside) ∙ sym (found words waits k inside)
+          | inl inside ↦ found words' waits k inside ∙ ap (λ s. Some s) (stays k outside)
+              ∙ sym (found words waits k inside)
           | inr past ↦ none_past words' waits k past ∙ sym (none_past words waits k past)
         ];
         promised = let r = run.most in omega arith;
       }
 
 -- one number more of those from a first one on
-pub range-more : (first at k : ℕ) → first ≤ at → (if k == at then true else (nat_le first k && nat_lt k at)) ≡ (nat_le first k && nat_lt k (at + 1))
+pub range-more : (first at k : ℕ) → first ≤ at → (if k == at then true else (nat_le first k && nat_lt k at))
+    ≡ (nat_le first k && nat_lt k (at + 1))
 range-more first at k from =
     elim (eqb_tells k at) [
       | inl same ↦ rw same.0 (rw same.1 (grind (arith, nat_tests)))
@@ -161,7 +187,8 @@ range-more first at k from =
     ]
 
 -- at the start
-started : (words : List ℕ) (device first : ℕ) → first ≤ device → ((k : ℕ) → is_set words k ≡ (nat_le first k && nat_lt k device))
+started : (words : List ℕ) (device first : ℕ) → first ≤ device
+    → ((k : ℕ) → is_set words k ≡ (nat_le first k && nat_lt k device))
     → states_of words (replicate device None) ≡ replicate first Taken ++ replicate (device - first) Free
 started words device first within bits =
     let waits : List (Option Awaited) = replicate device None in
@@ -170,19 +197,23 @@ started words device first within bits =
     let free_len : length (replicate (device - first) Free) ≡ device - first = length-replicate (device - first) Free in
     let right_len = length-append (replicate first Taken) (replicate (device - first) Free) in
     let left_len = length-states_of words waits in
-    same_lists (states_of words waits) (replicate first Taken ++ replicate (device - first) Free) (omega arith) (λ k d inside.
+    same_lists (states_of words waits) (replicate first Taken ++ replicate (device - first) Free) (omega arith)
+    (λ k d inside.
     let k_within : k < device = omega arith in
     let none : get_or waits k None ≡ None = get_or-replicate device k None None k_within in
     read_within words waits k d (omega arith) ∙ (elim (cases_lt k first) [
       | inl before ↦
           let off : is_set words k ≡ false = bits k ∙ grind (arith, nat_tests) in
-          rw (off, none) (sym (get_or_append_left (replicate first Taken) (replicate (device - first) Free) d k (omega arith) ∙ get_or-replicate first k Taken d before))
+          rw (off, none) (sym (get_or_append_left (replicate first Taken) (replicate (device - first) Free) d k
+          (omega arith) ∙ get_or-replicate first k Taken d before))
       | inr from ↦
           let on : is_set words k ≡ true = bits k ∙ grind (arith, nat_tests) in
-          rw on (sym (get_or-append_right (replicate first Taken) (replicate (device - first) Free) first k d taken_len from ∙ get_or-replicate (device - first) (k - first) Free d (omega arith)))
+          rw on (sym (get_or-append_right (replicate first Taken) (replicate (device - first) Free) first k d taken_len
+          from ∙ get_or-replicate (device - first) (k - first) Free d (omega arith)))
     ]))
 
-pub held-started : (words : List ℕ) (device first : ℕ) → first ≤ device → device < 2 ^ 32 → device ≤ 64 * length words → ((k : ℕ) → is_set words k ≡ (nat_le first k && nat_lt k device))
+pub held-started : (words : List ℕ) (device first : ℕ) → first ≤ device → device < 2 ^ 32 → device ≤ 64 * length words
+    → ((k : ℕ) → is_set words k ≡ (nat_le first k && nat_lt k device))
     → AreHeld words (replicate device None) (device - first) 0
 held-started words device first within few room bits =
     let waits : List (Option Awaited) = replicate device None in
@@ -196,13 +227,16 @@ held-started words device first within few room bits =
         | inl inside ↦ get_or-replicate device k None None inside
         | inr past ↦ get_or_past waits k None (omega arith)
       ];
-      counted = rw states (sym (sum_by-append (λ s. cond (is_free s) 1 0) (replicate first Taken) (replicate (device - first) Free)
+      counted = rw states (sym (sum_by-append (λ s. cond (is_free s) 1 0) (replicate first Taken)
+          (replicate (device - first) Free)
           ∙ (let taken = sum_by-replicate (λ s. cond (is_free s) 1 0) first Taken in
           let free = sum_by-replicate (λ s. cond (is_free s) 1 0) (device - first) Free in
           omega arith)));
       enough = omega arith;
     }
 
-pub states-started : (words : List ℕ) (device first : ℕ) → first ≤ device → ((k : ℕ) → is_set words k ≡ (nat_le first k && nat_lt k device))
-    → (let a : Blocks = record { states = states_of words (replicate device None); reserved = 0 } in a ≡ new_blocks device first)
+pub states-started : (words : List ℕ) (device first : ℕ) → first ≤ device
+    → ((k : ℕ) → is_set words k ≡ (nat_le first k && nat_lt k device))
+    → (let a : Blocks = record { states = states_of words (replicate device None); reserved = 0 } in
+    a ≡ new_blocks device first)
 states-started words device first within bits = rw (started words device first within bits) refl

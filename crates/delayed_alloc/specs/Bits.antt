@@ -24,4 +24,5 @@ unfoldable pub with_bit : List ℕ → ℕ → List ℕ
 with_bit words i = slice_set words (i / 64) (bit_or (slice_index words (i / 64)) (1 * 2 ^ (i % 64) % 2 ^ 64))
 
 unfoldable pub without_bit : List ℕ → ℕ → List ℕ
-without_bit words i = slice_set words (i / 64) (bit_and (slice_index words (i / 64)) (bit_not w64 (1 * 2 ^ (i % 64) % 2 ^ 64)))
+without_bit words i = slice_set words (i / 64) (bit_and (slice_index words (i / 64))
+    (bit_not w64 (1 * 2 ^ (i % 64) % 2 ^ 64)))

@@ -84,7 +84,8 @@ impl BlockSet {
     /// Adds a block.
     pub(crate) fn insert(&mut self, block: usize)
         requires { block < 64 * vec_len self.old.words }
-        ensures set { (b : ℕ) → is_set self.new.words.items b ≡ (if b == block then true else is_set self.old.words.items b) }
+        ensures set { (b : ℕ) → is_set self.new.words.items b
+            ≡ (if b == block then true else is_set self.old.words.items b) }
         ensures len { vec_len self.new.words ≡ vec_len self.old.words }
     {
         set_bit(&mut self.words, block);
@@ -94,7 +95,8 @@ impl BlockSet {
     /// Takes a block out.
     pub(crate) fn remove(&mut self, block: usize)
         requires { block < 64 * vec_len self.old.words }
-        ensures set { (b : ℕ) → is_set self.new.words.items b ≡ (if b == block then false else is_set self.old.words.items b) }
+        ensures set { (b : ℕ) → is_set self.new.words.items b
+            ≡ (if b == block then false else is_set self.old.words.items b) }
         ensures len { vec_len self.new.words ≡ vec_len self.old.words }
     {
         clear_bit(&mut self.words, block);
@@ -108,7 +110,8 @@ impl BlockSet {
         requires within { first + len ≤ 64 * vec_len self.old.words }
         requires fits { first + len < 2 ^ 64 }
         ensures run { (b : ℕ) → first ≤ b → b < first + len → is_set self.new.words.items b ≡ false }
-        ensures others { (b : ℕ) → (b < first) ⊎ (first + len ≤ b) → is_set self.new.words.items b ≡ is_set self.old.words.items b }
+        ensures others { (b : ℕ) → (b < first) ⊎ (first + len ≤ b)
+            → is_set self.new.words.items b ≡ is_set self.old.words.items b }
         ensures len { vec_len self.new.words ≡ vec_len self.old.words }
     {
         for block in first..first + len {

@@ -13,7 +13,8 @@ use Rattle.fixed_places.specs.Recency.{Touched, IsTouched, IsOldest, NoCandidate
 
 -- ---- candidates
 
-pub is_some-at : (candidates : List (Option ℕ)) (i : ℕ) → get_or (map is_some candidates) i false ≡ is_some (get_or candidates i None)
+pub is_some-at : (candidates : List (Option ℕ)) (i : ℕ)
+    → get_or (map is_some candidates) i false ≡ is_some (get_or candidates i None)
 is_some-at [] i = refl
 is_some-at (x ∷ xs) zero = refl
 is_some-at (x ∷ xs) (suc i) = is_some-at xs i
@@ -26,19 +27,22 @@ pub is_some-rekeyed : (touch : ℕ) (candidate : Option ℕ) → is_some (rekeye
 is_some-rekeyed touch None = refl
 is_some-rekeyed touch (Some x) = refl
 
-pub candidates-rekeyed : (old new : List (Option ℕ)) (touches : List ℕ) → length new ≡ length old → AreRekeyed old new touches
+pub candidates-rekeyed : (old new : List (Option ℕ)) (touches : List ℕ) → length new ≡ length old
+    → AreRekeyed old new touches
     → map is_some new ≡ map is_some old
 candidates-rekeyed old new touches len rekey =
     ext_get_or false (map is_some new) (map is_some old) (length-map new is_some ∙ len ∙ sym (length-map old is_some))
     (λ i h.
     let inside : i < length old = omega (arith, h, length-map new is_some, len) in
-    is_some-at new i ∙ ap is_some (rekey i inside) ∙ is_some-rekeyed (get_or touches i 0) (get_or old i None) ∙ sym (is_some-at old i))
+    is_some-at new i ∙ ap is_some (rekey i inside) ∙ is_some-rekeyed (get_or touches i 0) (get_or old i None)
+    ∙ sym (is_some-at old i))
 
 pub candidates-rekeyed_one : (candidates : List (Option ℕ)) (at touch : ℕ)
     → map is_some (set candidates at (rekeyed touch (get_or candidates at None))) ≡ map is_some candidates
 candidates-rekeyed_one candidates at touch =
     map-set is_some candidates at (rekeyed touch (get_or candidates at None))
-    ∙ ap (set (map is_some candidates) at) (is_some-rekeyed touch (get_or candidates at None) ∙ sym (is_some-at candidates at))
+    ∙ ap (set (map is_some candidates) at) (is_some-rekeyed touch (get_or candidates at None)
+    ∙ sym (is_some-at candidates at))
     ∙ set-get_or (map is_some candidates) at false
 
 -- ---- ranks
@@ -67,7 +71,13 @@ count-less p q (x ∷ xs) zero h within fails passes =
     let one_more : one q x ≡ 1 = rw passes refl in
     omega (arith, sum_by-cons (one p) x xs, sum_by-cons (one q) x xs, zero_more, one_more, count-le p q xs within)
 count-less p q (x ∷ xs) (suc i) h within fails passes =
-    omega (arith, sum_by-cons (one p) x xs, sum_by-cons (one q) x xs, one-le p q x within, count-less p q xs i (omega arith) within fails passes)
+    omega (
+      arith,
+      sum_by-cons (one p) x xs,
+      sum_by-cons (one q) x xs,
+      one-le p q x within,
+      count-less p q xs i (omega arith) within fails passes,
+    )
 
 -- how many are below a number
 abbrev pub rank_of : List ℕ → ℕ → ℕ
@@ -85,30 +95,36 @@ lt-trans x y z h k = grind (arith, nat_tests)
 pub rank-order : (touches : List ℕ) (i j : ℕ) → i < length touches → get_or touches i 0 < get_or touches j 0
     → rank_of touches (get_or touches i 0) < rank_of touches (get_or touches j 0)
 rank-order touches i j within less =
-    count-less (λ other. nat_lt other (get_or touches i 0)) (λ other. nat_lt other (get_or touches j 0)) touches i within
-    (λ z. lt-trans (get_or touches i 0) (get_or touches j 0) z less) (lt-self (get_or touches i 0)) (lt-true (get_or touches i 0) (get_or touches j 0) less)
+    count-less (λ other. nat_lt other (get_or touches i 0)) (λ other. nat_lt other (get_or touches j 0)) touches i
+    within
+    (λ z. lt-trans (get_or touches i 0) (get_or touches j 0) z less) (lt-self (get_or touches i 0))
+    (lt-true (get_or touches i 0) (get_or touches j 0) less)
 
 pub rank-below : (touches : List ℕ) (i : ℕ) → i < length touches → rank_of touches (get_or touches i 0) < length touches
 rank-below touches i within =
     let less : rank_of touches (get_or touches i 0) < count_by (λ other. true) touches =
-    count-less (λ other. nat_lt other (get_or touches i 0)) (λ other. true) touches i within (λ z h. refl) (lt-self (get_or touches i 0)) refl in
+    count-less (λ other. nat_lt other (get_or touches i 0)) (λ other. true) touches i within (λ z h. refl)
+    (lt-self (get_or touches i 0)) refl in
     omega (arith, less, count_by-le-length (λ (other : ℕ). true) touches)
 
-pub ranks_are : (ranks touches : List ℕ) → length ranks ≡ length touches → ((k : ℕ) → k < length touches → get_or ranks k 0 ≡ rank_of touches (get_or touches k 0))
+pub ranks_are : (ranks touches : List ℕ) → length ranks ≡ length touches
+    → ((k : ℕ) → k < length touches → get_or ranks k 0 ≡ rank_of touches (get_or touches k 0))
     → ranks ≡ map (rank_of touches) touches
 ranks_are ranks touches len done =
     ext_get_or 0 ranks (map (rank_of touches) touches) (len ∙ sym (length-map touches (rank_of touches)))
     (λ i h. let inside : i < length touches = omega (arith, len, h) in
     done i inside ∙ sym (get_or-map (rank_of touches) touches i 0 0 inside))
 
-rank-at : (touches : List ℕ) (i : ℕ) → i < length touches → get_or (map (rank_of touches) touches) i 0 ≡ rank_of touches (get_or touches i 0)
+rank-at : (touches : List ℕ) (i : ℕ) → i < length touches
+    → get_or (map (rank_of touches) touches) i 0 ≡ rank_of touches (get_or touches i 0)
 rank-at touches i h = get_or-map (rank_of touches) touches i 0 0 h
 
 pub ranks-order : (touches : List ℕ) → KeepsOrder touches (map (rank_of touches) touches)
 ranks-order touches i j h k less = rw (rank-at touches i h, rank-at touches j k) (rank-order touches i j h less)
 
 -- the ranks in place of the numbers
-pub recency-ranked : (touches others : List ℕ) (next : ℕ) (candidates new : List (Option ℕ)) → IsRecency touches next candidates others
+pub recency-ranked : (touches others : List ℕ) (next : ℕ) (candidates new : List (Option ℕ))
+    → IsRecency touches next candidates others
     → length new ≡ length candidates → AreRekeyed candidates new (map (rank_of touches) touches)
     → IsRecency (map (rank_of touches) touches) (length touches) new touches
 recency-ranked touches others next candidates new r len rekey =
@@ -119,7 +135,8 @@ recency-ranked touches others next candidates new r len rekey =
       few = rw ranks_len r.few;
       candidates_len = len ∙ r.candidates_len ∙ sym ranks_len;
       others_len = sym ranks_len;
-      below = λ i h. let inside : i < length touches = omega (arith, ranks_len, h) in rw (rank-at touches i inside) (rank-below touches i inside);
+      below = λ i h. let inside : i < length touches = omega (arith, ranks_len, h) in
+          rw (rank-at touches i inside) (rank-below touches i inside);
       kept = λ i. elim (cases_lt i (length candidates)) [
         | inl inside ↦ rw (rekey i inside) (under (get_or ranks i 0) (get_or candidates i None))
         | inr past ↦ rw (get_or_past new i None (omega (arith, len, past))) tt
@@ -136,13 +153,15 @@ pub none-oldest : (touches : List ℕ) (candidates : List (Option ℕ)) → HasN
     → NoCandidate (record { touches = touches; candidates = map is_some candidates })
 none-oldest touches candidates none i = is_some-at candidates i ∙ ap is_some (none i)
 
-upto : (a b : Option ℕ) (x y : ℕ) → IfSome a (λ touch. touch ≡ x) → IfSome b (λ touch. touch ≡ y) → is_some a ≡ true → is_some b ≡ true
+upto : (a b : Option ℕ) (x y : ℕ) → IfSome a (λ touch. touch ≡ x) → IfSome b (λ touch. touch ≡ y) → is_some a ≡ true
+    → is_some b ≡ true
     → Before nat_cmp a b → x ≤ y
 upto None b x y e f s t h = absurd (cc)
 upto (Some a) None x y e f s t h = absurd (cc)
 upto (Some a) (Some b) x y e f s t h = let least : a ≤ b = grind (arith, nat_tests) in omega (arith, e, f)
 
-pub is-oldest : (touches others : List ℕ) (next : ℕ) (candidates : List (Option ℕ)) (at : ℕ) → IsRecency touches next candidates others
+pub is-oldest : (touches others : List ℕ) (next : ℕ) (candidates : List (Option ℕ)) (at : ℕ)
+    → IsRecency touches next candidates others
     → IsLeast nat_cmp candidates at → IsOldest (record { touches = touches; candidates = map is_some candidates }) at
 is-oldest touches others next candidates at r least =
     let here : is_some (get_or candidates at None) ≡ true = least.some in
@@ -151,7 +170,8 @@ is-oldest touches others next candidates at r least =
       candidate = is_some-at candidates at ∙ here;
       oldest = λ i passes.
           let there : is_some (get_or candidates i None) ≡ true = sym (is_some-at candidates i) ∙ passes in
-          upto (get_or candidates at None) (get_or candidates i None) (get_or touches at 0) (get_or touches i 0) (r.kept at) (r.kept i) here there (least.least i);
+          upto (get_or candidates at None) (get_or candidates i None) (get_or touches at 0) (get_or touches i 0)
+          (r.kept at) (r.kept i) here there (least.least i);
     }
 
 pub if_none-as : (place : Option ℕ) (P Q : Type 0) → IfNone place P → (P → Q) → IfNone place Q

@@ -18,7 +18,8 @@ module _ {K : Type 0} (code : K → ℕ) where
   chains_of-empty n zero = refl
   chains_of-empty n (suc places) = ap (λ rest. None ∷ rest) (chains_of-empty n places)
 
-  pub table-new : (places : ℕ) → 0 < places → places ≤ 2 ^ 32 → IsTable code (record { count = places; places = replicate places None }) (replicate places None)
+  pub table-new : (places : ℕ) → 0 < places → places ≤ 2 ^ 32
+      → IsTable code (record { count = places; places = replicate places None }) (replicate places None)
   table-new places some few =
       let len : length (empty_places K places) ≡ places = length-replicate places None in
       record {
@@ -31,8 +32,12 @@ module _ {K : Type 0} (code : K → ℕ) where
 
   -- a write of what a place holds, where no key comes to stand twice
   pub table-set : (chained : Chained) (keys : List (Option K)) (at : ℕ) (held : Option K) → IsTable code chained keys
-      → ((i j : ℕ) (key : K) → get_or (set keys at held) i None ≡ Some key → get_or (set keys at held) j None ≡ Some key → i ≡ j)
-      → IsTable code (record chained { places = set chained.places at (option_map (λ key. chain_of (length keys) (code key)) held) }) (set keys at held)
+      → ((i j : ℕ) (key : K) → get_or (set keys at held) i None ≡ Some key → get_or (set keys at held) j None ≡ Some key
+      → i ≡ j)
+      → IsTable code (record chained {
+        places = set chained.places at
+            (option_map (λ key. chain_of (length keys) (code key)) held);
+      }) (set keys at held)
   table-set chained keys at held t only =
       let len : length (set keys at held) ≡ length keys = length-set keys at held in
       let f : Option K → Option ℕ = option_map (λ key. chain_of (length keys) (code key)) in
@@ -47,7 +52,8 @@ module _ {K : Type 0} (code : K → ℕ) where
   -- no key stands twice where one is put that stood nowhere
   pub put-only : (keys : List (Option K)) (at : ℕ) (key : K) → at < length keys → IsAbsent keys key
       → ((i j : ℕ) (k : K) → get_or keys i None ≡ Some k → get_or keys j None ≡ Some k → i ≡ j)
-      → (i j : ℕ) (k : K) → get_or (set keys at (Some key)) i None ≡ Some k → get_or (set keys at (Some key)) j None ≡ Some k → i ≡ j
+      → (i j : ℕ) (k : K) → get_or (set keys at (Some key)) i None ≡ Some k
+      → get_or (set keys at (Some key)) j None ≡ Some k → i ≡ j
   put-only keys at key within absent only i j k h m =
       elim (cases_eq i at) [
         | inl here ↦ elim (cases_eq j at) [
@@ -70,7 +76,8 @@ module _ {K : Type 0} (code : K → ℕ) where
   -- nor where one is taken
   pub taken-only : (keys : List (Option K)) (at : ℕ) → at < length keys
       → ((i j : ℕ) (k : K) → get_or keys i None ≡ Some k → get_or keys j None ≡ Some k → i ≡ j)
-      → (i j : ℕ) (k : K) → get_or (set keys at None) i None ≡ Some k → get_or (set keys at None) j None ≡ Some k → i ≡ j
+      → (i j : ℕ) (k : K) → get_or (set keys at None) i None ≡ Some k → get_or (set keys at None) j None ≡ Some k
+      → i ≡ j
   taken-only keys at within only i j k h m = only i j k (stood i h) (stood j m)
     where
       stood : (i : ℕ) → get_or (set keys at None) i None ≡ Some k → get_or keys i None ≡ Some k
@@ -93,33 +100,42 @@ module _ {K : Type 0} (code : K → ℕ) where
   passes-linked places chain from None f = tt
   passes-linked places chain from (Some at) f = is_chain-true chain (get_or places at None) f.1
 
-  in-chain : (chained : Chained) (keys : List (Option K)) (key : K) (i : ℕ) → IsTable code chained keys → get_or keys i None ≡ Some key
+  in-chain : (chained : Chained) (keys : List (Option K)) (key : K) (i : ℕ) → IsTable code chained keys
+      → get_or keys i None ≡ Some key
       → is_in (chain_of (length keys) (code key)) chained.places i ≡ true
   in-chain chained keys key i t here =
       let chain = chain_of (length keys) (code key) in
       let f : Option K → Option ℕ = option_map (λ key. chain_of (length keys) (code key)) in
       rw (t.spread, get_or-map-option (λ key. chain_of (length keys) (code key)) keys i, here) (eq-eqb chain chain refl)
 
-  len-places : (chained : Chained) (keys : List (Option K)) → IsTable code chained keys → length chained.places ≡ length keys
-  len-places chained keys t = ap length t.spread ∙ length-map keys (option_map (λ key. chain_of (length keys) (code key)))
+  len-places : (chained : Chained) (keys : List (Option K)) → IsTable code chained keys
+      → length chained.places ≡ length keys
+  len-places chained keys t = ap length t.spread ∙ length-map keys
+      (option_map (λ key. chain_of (length keys) (code key)))
 
-  pub sought-start : (chained : Chained) (keys : List (Option K)) (key : K) (next : Option ℕ) → IsTable code chained keys
-      → IfSome next (λ at. at < length chained.places) → IsFirst (is_in (chain_of (length keys) (code key)) chained.places) 0 next
+  pub sought-start : (chained : Chained) (keys : List (Option K)) (key : K) (next : Option ℕ)
+      → IsTable code chained keys
+      → IfSome next (λ at. at < length chained.places)
+      → IsFirst (is_in (chain_of (length keys) (code key)) chained.places) 0 next
       → IsSought chained.places keys key next
   sought-start chained keys key next t within f = record {
     within = rw (← len-places chained keys t) within;
     linked = passes-linked chained.places (chain_of (length keys) (code key)) 0 next f;
-    before = λ i here. first-upto (is_in (chain_of (length keys) (code key)) chained.places) 0 next i f (omega arith) (in-chain chained keys key i t here);
+    before = λ i here. first-upto (is_in (chain_of (length keys) (code key)) chained.places) 0 next i f (omega arith)
+        (in-chain chained keys key i t here);
   }
 
-  pub sought-more : (chained : Chained) (keys : List (Option K)) (key : K) (at : ℕ) (next : Option ℕ) → IsTable code chained keys
+  pub sought-more : (chained : Chained) (keys : List (Option K)) (key : K) (at : ℕ) (next : Option ℕ)
+      → IsTable code chained keys
       → IsSought chained.places keys key (Some at) → get_or keys at None ≢ Some key
-      → IfSome next (λ at. at < length chained.places) → IsFirst (is_in (chain_of (length keys) (code key)) chained.places) (at + 1) next
+      → IfSome next (λ at. at < length chained.places)
+      → IsFirst (is_in (chain_of (length keys) (code key)) chained.places) (at + 1) next
       → IsSought chained.places keys key next
   sought-more chained keys key at next t sought other within f = record {
     within = rw (← len-places chained keys t) within;
     linked = passes-linked chained.places (chain_of (length keys) (code key)) (at + 1) next f;
     before = λ i here.
-        upto-next (is_in (chain_of (length keys) (code key)) chained.places) at next i f (in-chain chained keys key i t here) (sought.before i here)
+        upto-next (is_in (chain_of (length keys) (code key)) chained.places) at next i f
+        (in-chain chained keys key i t here) (sought.before i here)
         (λ e. other (rw (← e) here));
   }

@@ -22,7 +22,8 @@ module _ {K : Type 0} (R : K → K → Ordering) where
 
   -- the node at a place is made the lesser of its children: then all but its parent are nodes
   pub node_made : (xs : List (Option K)) (places at : ℕ) (v : Option K) → 0 < at → at < places → length xs ≡ 2 * places
-      → IsLesser R v (get_or xs (2 * at) None) (get_or xs (2 * at + 1) None) → AreNodesBut R xs places at → AreNodesBut R (set xs at v) places (at / 2)
+      → IsLesser R v (get_or xs (2 * at) None) (get_or xs (2 * at + 1) None) → AreNodesBut R xs places at
+      → AreNodesBut R (set xs at v) places (at / 2)
   node_made xs places at v some within len lesser others i first last apart =
       elim (cases_eq i at) [
         | inl here ↦
@@ -34,7 +35,11 @@ module _ {K : Type 0} (R : K → K → Ordering) where
         | inr other ↦
             let l : 2 * i ≢ at = omega (arith, apart) in
             let r : 2 * i + 1 ≢ at = omega (arith, apart) in
-            rw (get_or-set_other xs at (2 * i) v None l, get_or-set_other xs at (2 * i + 1) v None r, get_or-set_other xs at i v None other)
+            rw (
+              get_or-set_other xs at (2 * i) v None l,
+              get_or-set_other xs at (2 * i + 1) v None r,
+              get_or-set_other xs at i v None other,
+            )
             (others i first last other)
       ]
 
@@ -65,19 +70,22 @@ module _ {K : Type 0} (R : K → K → Ordering) where
       rw (get_or-drop places xs i None)
       (elim (cases_lt (places + i) (length xs)) [
         | inl inside ↦
-            root_within o xs places t (places + i) (places + i) (omega arith) (omega (arith, t.some)) (omega (arith, t.len, inside))
+            root_within o xs places t (places + i) (places + i) (omega arith) (omega (arith, t.some))
+            (omega (arith, t.len, inside))
         | inr past ↦ rw (get_or_past xs (places + i) None past) tt
       ])
 
   -- the child that isn't above the other reaches what its parent reaches
-  pub left_reaches : IsTotalOrder R → (top a b key : Option K) → IsLesser R top a b → Before R a b → Before R top key → Before R a key
+  pub left_reaches : IsTotalOrder R → (top a b key : Option K) → IsLesser R top a b → Before R a b → Before R top key
+      → Before R a key
   left_reaches o top a b key l first up =
       elim l.one_of [
         | inl e ↦ subst (λ (x : Option K). Before R x key) e up
         | inr e ↦ before-trans o a b key first (subst (λ (x : Option K). Before R x key) e up)
       ]
 
-  pub right_reaches : IsTotalOrder R → (top a b key : Option K) → IsLesser R top a b → Before R b a → Before R top key → Before R b key
+  pub right_reaches : IsTotalOrder R → (top a b key : Option K) → IsLesser R top a b → Before R b a → Before R top key
+      → Before R b key
   right_reaches o top a b key l first up =
       elim l.one_of [
         | inl e ↦ before-trans o b a key first (subst (λ (x : Option K). Before R x key) e up)

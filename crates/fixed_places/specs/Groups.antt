@@ -16,7 +16,8 @@ module _ {K : Type 0} (keys : List (Option K)) where
   abbrev pub IsBelow : (ℕ → ℕ) → K → ℕ → Option ℕ → Type 0
   IsBelow height key at None = (i : ℕ) → HasKey key i → height at ≤ height i
   IsBelow height key at (Some below) =
-      HasKey key below × (height below < height at) × ((i : ℕ) → HasKey key i → height i < height at → height i ≤ height below)
+      HasKey key below × (height below < height at) × ((i : ℕ) → HasKey key i → height i < height at
+      → height i ≤ height below)
 
   -- the places of each key lie at heights that differ; each leads to the one below it, and the table has the top
   pub record ArePiles (tops : List (Option K)) (below : List (Option ℕ)) : Type 0 where

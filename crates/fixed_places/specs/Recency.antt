@@ -10,13 +10,15 @@ pub record Touched : Type 0 where
 pub record IsTouched (old new : List ℕ) (at : ℕ) : Type 0 where
   pub len : length new ≡ length old
   pub last : (i : ℕ) → i < length old → i ≢ at → slice_index new i < slice_index new at
-  pub order : (i j : ℕ) → i < length old → j < length old → i ≢ at → j ≢ at → slice_index old i < slice_index old j → slice_index new i < slice_index new j
+  pub order : (i j : ℕ) → i < length old → j < length old → i ≢ at → j ≢ at → slice_index old i < slice_index old j
+      → slice_index new i < slice_index new j
 
 -- the candidate touched longest ago
 pub record IsOldest (places : Touched) (at : ℕ) : Type 0 where
   pub within : at < length places.touches
   pub candidate : slice_index_or places.candidates at false ≡ true
-  pub oldest : (i : ℕ) → slice_index_or places.candidates i false ≡ true → slice_index places.touches at ≤ slice_index places.touches i
+  pub oldest : (i : ℕ) → slice_index_or places.candidates i false ≡ true
+      → slice_index places.touches at ≤ slice_index places.touches i
 
 abbrev pub NoCandidate : Touched → Type 0
 NoCandidate places = (i : ℕ) → slice_index_or places.candidates i false ≡ false
@@ -32,7 +34,8 @@ pub record IsRecency (touches : List ℕ) (next : ℕ) (candidates : List (Optio
 
 -- numbers in the same order
 abbrev pub KeepsOrder : List ℕ → List ℕ → Type 0
-KeepsOrder old new = (i j : ℕ) → i < length old → j < length old → slice_index old i < slice_index old j → slice_index new i < slice_index new j
+KeepsOrder old new = (i j : ℕ) → i < length old → j < length old → slice_index old i < slice_index old j
+    → slice_index new i < slice_index new j
 
 -- a candidate under another number
 abbrev pub rekeyed : ℕ → Option ℕ → Option ℕ
@@ -40,4 +43,5 @@ rekeyed touch None = None
 rekeyed touch (Some _) = Some touch
 
 abbrev pub AreRekeyed : List (Option ℕ) → List (Option ℕ) → List ℕ → Type 0
-AreRekeyed old new touches = (i : ℕ) → i < length old → slice_index_or new i None ≡ rekeyed (slice_index touches i) (slice_index_or old i None)
+AreRekeyed old new touches = (i : ℕ) → i < length old → slice_index_or new i None
+    ≡ rekeyed (slice_index touches i) (slice_index_or old i None)

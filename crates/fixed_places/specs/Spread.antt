@@ -14,4 +14,5 @@ module _ {K : Type 0} (code : K → ℕ) where
     pub few : length keys ≤ 2 ^ 32
     pub count : chained.count ≡ length keys
     pub spread : chained.places ≡ map (option_map (λ key. chain_of (length keys) (code key))) keys
-    pub only : (i j : ℕ) (key : K) → slice_index_or keys i None ≡ Some key → slice_index_or keys j None ≡ Some key → i ≡ j
+    pub only : (i j : ℕ) (key : K) → slice_index_or keys i None ≡ Some key → slice_index_or keys j None ≡ Some key
+        → i ≡ j

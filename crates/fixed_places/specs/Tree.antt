@@ -19,7 +19,8 @@ module _ {K : Type 0} (R : K → K → Ordering) where
 
   -- the node at i is the lesser of its children
   abbrev pub IsNode : List (Option K) → ℕ → Type 0
-  IsNode nodes i = IsLesser (slice_index_or nodes i None) (slice_index_or nodes (2 * i) None) (slice_index_or nodes (2 * i + 1) None)
+  IsNode nodes i = IsLesser (slice_index_or nodes i None) (slice_index_or nodes (2 * i) None)
+      (slice_index_or nodes (2 * i + 1) None)
 
   -- each node but one is
   abbrev pub AreNodesBut : List (Option K) → ℕ → ℕ → Type 0

@@ -76,7 +76,8 @@ impl Chains {
     pub fn next(&self, at: usize) -> Option<usize>
         requires { IsSome (slice_index_or self.now.places at None) }
         ensures within { IfSome result (λ next. next < length self.now.places) }
-        ensures next { (chain : ℕ) → slice_index_or self.now.places at None ≡ Some chain → IsFirst (is_in chain self.now.places) (at + 1) result }
+        ensures next { (chain : ℕ) → slice_index_or self.now.places at None ≡ Some chain
+            → IsFirst (is_in chain self.now.places) (at + 1) result }
     {
         as_index(self.nexts[at])
     }

@@ -7,7 +7,8 @@ ghost use Rattle.line_printer.specs.Puts.{Puts};
 /// It never refuses a piece. Where it can't take one it drops it and all that follow, and the call that
 /// ends the printing says so.
 pub trait Printer {
-    // What is due at a printer: of a whole text that was begun at the first printer, the rest is still to come at the second.
+    // What is due at a printer: of a whole text that was begun at the first printer, the rest is still to come at the
+    // second.
     ghost due: { Self → List ℕ → Self → List ℕ → Type 0 };
 
     /// Takes the next bytes of a text.

@@ -2,7 +2,8 @@
 use Rattle.std.specs.Prelude.{ℕ, List, ◌++◌, take}
 use Rattle.outside.specs.Faults.{counted}
 
--- the bytes that it holds, how many it can hold, the most that one call takes, the numbers of the calls that fail, and the
+-- the bytes that it holds, how many it can hold, the most that one call takes, the numbers of the calls that fail, and
+-- the
 -- counts of calls and of faults
 pub record Store : Type 0 where
   pub held : List ℕ

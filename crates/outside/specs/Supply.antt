@@ -2,7 +2,8 @@
 use Rattle.std.specs.Prelude.{ℕ, List, drop}
 use Rattle.outside.specs.Faults.{counted}
 
--- the bytes that are left, the most that one call gives, the numbers of the calls that fail, and the counts of calls and
+-- the bytes that are left, the most that one call gives, the numbers of the calls that fail, and the counts of calls
+-- and
 -- of faults
 pub record Supply : Type 0 where
   pub left : List ℕ

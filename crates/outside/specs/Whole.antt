@@ -4,7 +4,8 @@ use Rattle.std.specs.Io.KnownBytes.{Consumes, Appends}
 
 -- n more bytes were taken, and kept at the end
 abbrev pub TakesMore : Option (List ℕ) → Option (List ℕ) → List ℕ → List ℕ → ℕ → Type 0
-TakesMore left_before left_now old new n = (more : List ℕ) × Consumes left_before left_now more × (new ≡ old ++ more) × (length more ≡ n)
+TakesMore left_before left_now old new n = (more : List ℕ) × Consumes left_before left_now more × (new ≡ old ++ more)
+    × (length more ≡ n)
 
 -- one byte more than the limit was taken
 abbrev pub TakesOver : Option (List ℕ) → Option (List ℕ) → ℕ → Type 0

@@ -38,10 +38,12 @@ key-ready None h = absurd (cc)
 key-ready (Some p) h =
     elim (cases_Bool (is_ready (Some p))) [
       | inl is ↦ is
-      | inr fails ↦ let none : ready_in (Some p) ≡ None = rw fails refl in let no : IsSome {T = PageKey} None = rw none at h in absurd (cc)
+      | inr fails ↦ let none : ready_in (Some p) ≡ None = rw fails refl in
+          let no : IsSome {T = PageKey} None = rw none at h in absurd (cc)
     ]
 
-read-ready : (g : Guided) (places : List (Option Held)) (i : ℕ) → AreGuided g places → get_or g.ready i None ≡ ready_in (get_or places i None)
+read-ready : (g : Guided) (places : List (Option Held)) (i : ℕ) → AreGuided g places
+    → get_or g.ready i None ≡ ready_in (get_or places i None)
 read-ready g places i a = ap (λ ready. get_or ready i None) a.ready ∙ get_or-map ready_in places i None
 
 pub ready-none : (g : Guided) (places : List (Option Held)) (i : ℕ) → AreGuided g places → HasNone g.ready
@@ -62,7 +64,8 @@ pub least-held : (x : Option Held) → is_ready x ≡ true → IsSome x
 least-held None h = absurd (cc)
 least-held (Some p) h = refl
 
-pub first-ready : (c : Cached) (g : Guided) (at : ℕ) (p : Held) → AreGuided g c.places → AreDistinct c.places → IsLeastKey g.ready at
+pub first-ready : (c : Cached) (g : Guided) (at : ℕ) (p : Held) → AreGuided g c.places → AreDistinct c.places
+    → IsLeastKey g.ready at
     → get_or c.places at None ≡ Some p → IsFirstReady c (buf_of p.key)
 first-ready c g at p a distinct least here =
     let slot = own-slot c.places at p distinct here in
@@ -73,18 +76,22 @@ first-ready c g at p a distinct least here =
       first = λ k is_there. later k (get_or c.places (position_or_len (is_page k) c.places) None) refl is_there key;
     }
   where
-    later : (k : Buf) (x : Option Held) → get_or c.places (position_or_len (is_page k) c.places) None ≡ x → is_ready x ≡ true
+    later : (k : Buf) (x : Option Held) → get_or c.places (position_or_len (is_page k) c.places) None ≡ x
+        → is_ready x ≡ true
         → get_or g.ready at None ≡ Some p.key → IsUpTo (buf_of p.key) k
     later k None e h key = absurd (cc)
     later k (Some q) e h key =
         let i = position_or_len (is_page k) c.places in
-        let own : is_page k (Some q) ≡ true = sym (ap (is_page k) e) ∙ passes_at_first (is_page k) c.places None (some-inside c.places i (rw e refl)) in
+        let own : is_page k (Some q) ≡ true = sym (ap (is_page k) e)
+        ∙ passes_at_first (is_page k) c.places None (some-inside c.places i (rw e refl)) in
         let up_to : Buf → Type 0 = λ b. IsUpTo (buf_of p.key) b in
-        subst up_to (page-buf k q own) (least.least i p.key q.key key (read-ready g c.places i a ∙ ap ready_in e ∙ ready-key q h))
+        subst up_to (page-buf k q own) (least.least i p.key q.key key (read-ready g c.places i a ∙ ap ready_in e
+        ∙ ready-key q h))
 
 -- ---- the victim
 
-read-idle : (g : Guided) (places : List (Option Held)) (i : ℕ) → AreGuided g places → get_or g.idle i false ≡ is_idle (get_or places i None)
+read-idle : (g : Guided) (places : List (Option Held)) (i : ℕ) → AreGuided g places
+    → get_or g.idle i false ≡ is_idle (get_or places i None)
 read-idle g places i a = ap (λ idle. get_or idle i false) a.idle ∙ get_or-map is_idle places i None
 
 pub no-victim : (g : Guided) (places : List (Option Held)) (i : ℕ) → AreGuided g places
@@ -99,11 +106,14 @@ pub idle-held : (x : Option Held) → is_idle x ≡ true → IsSome x
 idle-held None h = absurd (cc)
 idle-held (Some p) h = refl
 
-pub is-victim : (c : Cached) (g : Guided) (at : ℕ) (p : Held) → AreGuided g c.places → AreDistinct c.places → c.touches ≡ g.touches
-    → IsOldest record { touches = g.touches; candidates = g.idle } at → get_or c.places at None ≡ Some p → IsVictim c (buf_of p.key)
+pub is-victim : (c : Cached) (g : Guided) (at : ℕ) (p : Held) → AreGuided g c.places → AreDistinct c.places
+    → c.touches ≡ g.touches
+    → IsOldest record { touches = g.touches; candidates = g.idle } at → get_or c.places at None ≡ Some p
+    → IsVictim c (buf_of p.key)
 is-victim c g at p a distinct touches oldest here =
     let slot = own-slot c.places at p distinct here in
-    let place : position_or_len (is_page (buf_of p.key)) c.places ≡ at = slot-place (buf_of p.key) c.places at (Some p) slot refl in
+    let place : position_or_len (is_page (buf_of p.key)) c.places ≡ at =
+    slot-place (buf_of p.key) c.places at (Some p) slot refl in
     let idle : is_idle (Some p) ≡ true = rw here at (oldest-idle g c.places at a oldest) in
     record {
       idle = rw slot.page idle;

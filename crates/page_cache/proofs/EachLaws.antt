@@ -38,7 +38,8 @@ place-same by k (x ∷ xs) = rw (page-same by k x, place-same by k xs) refl
 
 tags-same : (by : Pid) (places : List (Option Held)) → map tag_in (all_unpinned by places) ≡ map tag_in places
 tags-same by [] = refl
-tags-same by (x ∷ xs) = let here : tag_in (option_map (unpinned by) x) ≡ tag_in x = one x in rw (here, tags-same by xs) refl
+tags-same by (x ∷ xs) = let here : tag_in (option_map (unpinned by) x) ≡ tag_in x = one x in
+    rw (here, tags-same by xs) refl
   where
     one : (y : Option Held) → tag_in (option_map (unpinned by) y) ≡ tag_in y
     one None = refl
@@ -52,13 +53,17 @@ unsettled-one : (by : Pid) (x : Option Held) → is_unsettled (option_map (unpin
 unsettled-one by None = refl
 unsettled-one by (Some p) = refl
 
-pub unpins : (old new : Cached) (by : Pid) → new.places ≡ all_unpinned by old.places → new.touches ≡ old.touches → new.limit ≡ old.limit
+pub unpins : (old new : Cached) (by : Pid) → new.places ≡ all_unpinned by old.places → new.touches ≡ old.touches
+    → new.limit ≡ old.limit
     → ChangesEach old new (λ k. unpinned by)
 unpins old new by places touches limit =
     record {
-      pages = λ k. rw (places, place-same by k old.places) (get_or-map (option_map (unpinned by)) old.places (position_or_len (is_page k) old.places) None);
-      count = rw places (count-map is_some (option_map (unpinned by)) old.places ∙ count-same (λ x. is_some (option_map (unpinned by) x)) is_some old.places (held-one by));
-      unsettled = rw places (count-map is_unsettled (option_map (unpinned by)) old.places ∙ count-same (λ x. is_unsettled (option_map (unpinned by) x)) is_unsettled old.places (unsettled-one by));
+      pages = λ k. rw (places, place-same by k old.places)
+          (get_or-map (option_map (unpinned by)) old.places (position_or_len (is_page k) old.places) None);
+      count = rw places (count-map is_some (option_map (unpinned by)) old.places
+          ∙ count-same (λ x. is_some (option_map (unpinned by) x)) is_some old.places (held-one by));
+      unsettled = rw places (count-map is_unsettled (option_map (unpinned by)) old.places
+          ∙ count-same (λ x. is_unsettled (option_map (unpinned by) x)) is_unsettled old.places (unsettled-one by));
       limit = limit;
       touches = λ k was is. rw (places, touches, place-same by k old.places) refl;
     }
@@ -95,27 +100,34 @@ none-pinned by places pins is none i =
     elim (cases_Bool (is_pinning by (get_or places i None))) [
       | inl here ↦
           absurd
-          (none i (ap (λ pins. get_or pins i None) is ∙ get_or-map pin_in places i None ∙ pinned-by by (pin_in (get_or places i None)) here))
+          (none i (ap (λ pins. get_or pins i None) is ∙ get_or-map pin_in places i None
+          ∙ pinned-by by (pin_in (get_or places i None)) here))
       | inr other ↦ other
     ]
 
-pub pinned-found : (by : Pid) (places : List (Option Held)) (pins : List (Option Pid)) (at : ℕ) → pins ≡ map pin_in places
+pub pinned-found : (by : Pid) (places : List (Option Held)) (pins : List (Option Pid)) (at : ℕ)
+    → pins ≡ map pin_in places
     → get_or pins at None ≡ Some by → is_pinning by (get_or places at None) ≡ true
 pinned-found by places pins at is found =
-    let here : pin_in (get_or places at None) ≡ Some by = sym (get_or-map pin_in places at None) ∙ sym (ap (λ pins. get_or pins at None) is) ∙ found in
+    let here : pin_in (get_or places at None) ≡ Some by = sym (get_or-map pin_in places at None)
+    ∙ sym (ap (λ pins. get_or pins at None) is) ∙ found in
     rw here (grind (arith, nat_tests))
 
 module _ (by : Pid) (places : List (Option Held)) (at : ℕ) (p : Held) (here : get_or places at None ≡ Some p)
     (pinned : is_pinning by (Some p) ≡ true) where
-  pub unpin-more : all_unpinned by (set places at (Some record p { state = record p.state { pin = None } })) ≡ all_unpinned by places
+  pub unpin-more : all_unpinned by (set places at (Some record p { state = record p.state { pin = None } }))
+      ≡ all_unpinned by places
   unpin-more =
       map-set_same (option_map (unpinned by)) places at (Some record p { state = record p.state { pin = None } }) None
-      (let as_before : option_map (unpinned by) (Some p) ≡ Some record p { state = record p.state { pin = None } } = rw pinned refl in
+      (let as_before : option_map (unpinned by) (Some p) ≡ Some record p { state = record p.state { pin = None } } =
+      rw pinned refl in
       sym (ap (option_map (unpinned by)) here ∙ as_before))
 
-  pub unpin-fewer : at < length places → pinning by (set places at (Some record p { state = record p.state { pin = None } })) < pinning by places
+  pub unpin-fewer : at < length places
+      → pinning by (set places at (Some record p { state = record p.state { pin = None } })) < pinning by places
   unpin-fewer within =
-      let sums = count-set (is_pinning by) places at (Some p) (Some record p { state = record p.state { pin = None } }) within here in
+      let sums = count-set (is_pinning by) places at (Some p) (Some record p { state = record p.state { pin = None } })
+      within here in
       let was : one_if (is_pinning by (Some p)) ≡ 1 = rw pinned refl in
       omega (arith, sums, was)
 

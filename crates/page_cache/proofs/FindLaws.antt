@@ -19,7 +19,8 @@ use Rattle.page_cache.proofs.ListLaws.{count-map, count-same, count-below}
 use Rattle.page_cache.proofs.SlotLaws.{page-key, key-page, page-own, page-some, page-absent, slot-here}
 
 -- what is no page is in no place
-pub no-key : (b : Buf) (places : List (Option Held)) → key_of b ≡ None → get_or places (position_or_len (is_page b) places) None ≡ None
+pub no-key : (b : Buf) (places : List (Option Held)) → key_of b ≡ None
+    → get_or places (position_or_len (is_page b) places) None ≡ None
 no-key b places none = page-absent b places (λ i. nowhere (get_or places i None))
   where
     nowhere : (x : Option Held) → is_page b x ≡ false
@@ -41,7 +42,8 @@ has-page Bitmap key x is h = absurd (cc)
 has-page (Dir k) key x is h = absurd (cc)
 has-page (Inode k) key x is h = absurd (cc)
 
-pub place-absent : (b : Buf) (key : PageKey) (g : Guided) (places : List (Option Held)) → key_of b ≡ Some key → AreGuided g places
+pub place-absent : (b : Buf) (key : PageKey) (g : Guided) (places : List (Option Held)) → key_of b ≡ Some key
+    → AreGuided g places
     → IsAbsent g.keys key → get_or places (position_or_len (is_page b) places) None ≡ None
 place-absent b key g places is a absent =
     page-absent b places
@@ -49,18 +51,21 @@ place-absent b key g places is a absent =
     elim (cases_Bool (is_page b (get_or places i None))) [
       | inl here ↦
           absurd
-          (absent i (ap (λ keys. get_or keys i None) a.keys ∙ get_or-map key_in places i None ∙ page-key b (get_or places i None) here ∙ is))
+          (absent i (ap (λ keys. get_or keys i None) a.keys ∙ get_or-map key_in places i None
+          ∙ page-key b (get_or places i None) here ∙ is))
       | inr other ↦ other
     ])
 
-pub place-found : (b : Buf) (key : PageKey) (g : Guided) (places : List (Option Held)) (at : ℕ) → key_of b ≡ Some key → AreGuided g places
+pub place-found : (b : Buf) (key : PageKey) (g : Guided) (places : List (Option Held)) (at : ℕ) → key_of b ≡ Some key
+    → AreGuided g places
     → IsPlaceOf g.keys key at → IsPlaced places b at
 place-found b key g places at is a found =
     let within : at < length places = rw (ap length a.keys ∙ length-map places key_in) at found.within in
     let read : (i : ℕ) → get_or g.keys i None ≡ key_in (get_or places i None) =
     λ i. ap (λ keys. get_or keys i None) a.keys ∙ get_or-map key_in places i None
     in
-    let here : is_page b (get_or places at None) ≡ true = has-page b key (get_or places at None) is (sym (read at) ∙ found.here) in
+    let here : is_page b (get_or places at None) ≡ true =
+    has-page b key (get_or places at None) is (sym (read at) ∙ found.here) in
     record {
       slot = slot-here b places at (get_or places at None) within refl here
           (λ i there. found.only i (read i ∙ page-key b (get_or places i None) there ∙ is));
@@ -68,16 +73,20 @@ place-found b key g places at is a found =
     }
 
 -- a page that isn't held has a key that no place has
-pub key-absent : (key : PageKey) (places : List (Option Held)) → ((i : ℕ) → is_page (buf_of key) (get_or places i None) ≡ false)
+pub key-absent : (key : PageKey) (places : List (Option Held))
+    → ((i : ℕ) → is_page (buf_of key) (get_or places i None) ≡ false)
     → (i : ℕ) (p : Held) → get_or places i None ≡ Some p → p.key ≢ key
 key-absent key places none i p here is =
-    let own : is_page (buf_of key) (get_or places i None) ≡ true = rw (here, ← is) (page-own p) in let no = none i in absurd (cc)
+    let own : is_page (buf_of key) (get_or places i None) ≡ true = rw (here, ← is) (page-own p) in let no = none i in
+    absurd (cc)
 
 -- ---- counts
 
-pub held-count : (g : Guided) (places : List (Option Held)) → AreGuided g places → count_by is_some g.keys ≡ count_by is_some places
+pub held-count : (g : Guided) (places : List (Option Held)) → AreGuided g places
+    → count_by is_some g.keys ≡ count_by is_some places
 held-count g places a =
-    ap (count_by is_some) a.keys ∙ count-map is_some key_in places ∙ count-same (λ x. is_some (key_in x)) is_some places each
+    ap (count_by is_some) a.keys ∙ count-map is_some key_in places
+    ∙ count-same (λ x. is_some (key_in x)) is_some places each
   where
     each : (x : Option Held) → is_some (key_in x) ≡ is_some x
     each None = refl

@@ -19,7 +19,8 @@ use Rattle.page_cache.proofs.CallLaws.{tag-at, other-causes}
 
 module _ (before after : Tags) (old new : Cached) (b : Buf) (at : ℕ) (placed : IsPlaced old.places b at)
     (e : new ≡ record old { places = set old.places at None })
-    (went : Moved before after (use_in same (tag_in (get_or old.places at None))) no_use) (covers : Covers same (tags_in old) before) where
+    (went : Moved before after (use_in same (tag_in (get_or old.places at None))) no_use)
+    (covers : Covers same (tags_in old) before) where
   went_at : Moved before after (use_in same (get_or (tags_in old) at None)) no_use
   went_at = rw (tag-at old.places at) went
 
@@ -28,12 +29,14 @@ module _ (before after : Tags) (old new : Cached) (b : Buf) (at : ℕ) (placed :
 
   pub gone-causes : (k : Buf) → k ≢ b → causes_of after new k ≡ causes_of before old k
   gone-causes k apart =
-      other-causes before after old new b k at (get_or old.places at None) None placed.slot refl (ap (λ (c : Cached). c.places) e) apart
+      other-causes before after old new b k at (get_or old.places at None) None placed.slot refl
+      (ap (λ (c : Cached). c.places) e) apart
       (gone-others (tags_in old) at before after went_at covers inside)
 
   pub gone-held : Moved before after (held same (tags_in old)) (held same (tags_in new))
   gone-held =
-      let tags : tags_in new ≡ set (tags_in old) at None = ap (λ (c : Cached). map tag_in c.places) e ∙ map-set tag_in old.places at None in
+      let tags : tags_in new ≡ set (tags_in old) at None = ap (λ (c : Cached). map tag_in c.places) e
+      ∙ map-set tag_in old.places at None in
       rw tags (gone-moved (tags_in old) at before after went_at covers inside)
 
 -- a page that isn't held stays so
@@ -53,7 +56,8 @@ pub sound-data : (places : List (Option Held)) → ((i : ℕ) → IfSome (get_or
     → IsSome (get_or places (position_or_len (is_page k) places) None) → IsDataPage k
 sound-data places sound k some =
     let at = position_or_len (is_page k) places in
-    by-page (get_or places at None) (sound at) some (passes_at_first (is_page k) places None (some-inside places at some))
+    by-page (get_or places at None) (sound at) some (passes_at_first (is_page k) places None
+    (some-inside places at some))
   where
     by-page : (x : Option Held) → IfSome x IsSound → IsSome x → is_page k x ≡ true → IsDataPage k
     by-page None h none is = absurd (cc)

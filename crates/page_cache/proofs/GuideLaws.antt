@@ -6,7 +6,8 @@ use Rattle.page_cache.specs.declared.key.PageKey.{PageKey}
 use Rattle.page_cache.specs.Guide.{IsGuide}
 use Rattle.page_cache.proofs.ListLaws.{empty_places, map-replicate}
 
-pub guide-set : (keys : List (Option PageKey)) (taken : List Bool) (touches : List ℕ) (idle : List Bool) (ready : List (Option PageKey))
+pub guide-set : (keys : List (Option PageKey)) (taken : List Bool) (touches : List ℕ) (idle : List Bool)
+    (ready : List (Option PageKey))
     (unsettled : List Bool) (pins : List (Option Pid)) (at : ℕ) (key : Option PageKey)
     → IsGuide keys taken touches idle ready unsettled pins
     → IsGuide (set keys at key) (set taken at (is_some key)) touches idle ready unsettled pins
@@ -24,7 +25,8 @@ guide-set keys taken touches idle ready unsettled pins at key g =
     }
 
 pub guide-new : (places : ℕ) (touches : List ℕ) → 0 < places → places ≤ 2 ^ 32 → length touches ≡ places
-    → IsGuide (empty_places PageKey places) (replicate places false) touches (replicate places false) (empty_places PageKey places)
+    → IsGuide (empty_places PageKey places) (replicate places false) touches (replicate places false)
+    (empty_places PageKey places)
     (replicate places false) (empty_places Pid places)
 guide-new places touches some few touches_len =
     let no_key : Option PageKey = None in

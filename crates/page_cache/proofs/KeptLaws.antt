@@ -15,8 +15,10 @@ use Rattle.page_cache.proofs.SlotLaws.{count-set, some-inside}
 
 -- ---- a new cache
 
-pub kept-new : (limit count : ℕ) (g : Guided) (pool : Pooled) → limit ≤ count → 0 < count → count ≤ 2 ^ 32 → limit < 2 ^ 32
-    → IsUnused count g → pool ≡ record { pages = 0; runs = 0; places = count } → IsKept limit 0 (empty_places Held count) g pool
+pub kept-new : (limit count : ℕ) (g : Guided) (pool : Pooled) → limit ≤ count → 0 < count → count ≤ 2 ^ 32
+    → limit < 2 ^ 32
+    → IsUnused count g → pool ≡ record { pages = 0; runs = 0; places = count }
+    → IsKept limit 0 (empty_places Held count) g pool
 kept-new limit count g pool within some few small unused is =
     let none : Option Held = None in
     let len : length (empty_places Held count) ≡ count = length-replicate count none in
@@ -49,7 +51,8 @@ kept-new limit count g pool within some few small unused is =
 -- ---- a place is written
 
 pub sound-set : (places : List (Option Held)) (at : ℕ) (y : Option Held) → at < length places
-    → ((i : ℕ) → IfSome (get_or places i None) IsSound) → IfSome y IsSound → (i : ℕ) → IfSome (get_or (set places at y) i None) IsSound
+    → ((i : ℕ) → IfSome (get_or places i None) IsSound) → IfSome y IsSound → (i : ℕ)
+    → IfSome (get_or (set places at y) i None) IsSound
 sound-set places at y within sound is i =
     elim (cases_eq i at) [
       | inl here ↦ rw (here, get_or-set_same places at y None within) is
@@ -57,7 +60,8 @@ sound-set places at y within sound is i =
     ]
 
 pub distinct-set : (places : List (Option Held)) (at : ℕ) (y : Option Held) → at < length places → AreDistinct places
-    → ((i : ℕ) (p q : Held) → get_or places i None ≡ Some p → y ≡ Some q → p.key ≡ q.key → i ≡ at) → AreDistinct (set places at y)
+    → ((i : ℕ) (p q : Held) → get_or places i None ≡ Some p → y ≡ Some q → p.key ≡ q.key → i ≡ at)
+    → AreDistinct (set places at y)
 distinct-set places at y within distinct own i j p q h k e =
     let there : (n : ℕ) (r : Held) → n ≢ at → get_or (set places at y) n None ≡ Some r → get_or places n None ≡ Some r =
     λ n r apart m. sym (get_or-set_other places at n y None apart) ∙ m
@@ -79,15 +83,18 @@ distinct-set places at y within distinct own i j p q h k e =
     ]
 
 -- the guide of the places where one of them is written and marked
-pub guided-set : (g : Guided) (places : List (Option Held)) (at : ℕ) (y : Option Held) (key : PageKey) → AreGuided g places
+pub guided-set : (g : Guided) (places : List (Option Held)) (at : ℕ) (y : Option Held) (key : PageKey)
+    → AreGuided g places
     → key_if (is_ready y) key ≡ ready_in y
     → AreGuided (marked (record g { keys = set g.keys at (key_in y) }) at key (mark_in y)) (set places at y)
 guided-set g places at y key a is =
     record {
       keys = ap (λ keys. set keys at (key_in y)) a.keys ∙ sym (map-set key_in places at y);
       idle = ap (λ idle. set idle at (is_idle y)) a.idle ∙ sym (map-set is_idle places at y);
-      ready = ap (λ ready. set ready at (key_if (is_ready y) key)) a.ready ∙ ap (set (map ready_in places) at) is ∙ sym (map-set ready_in places at y);
-      unsettled = ap (λ unsettled. set unsettled at (is_unsettled y)) a.unsettled ∙ sym (map-set is_unsettled places at y);
+      ready = ap (λ ready. set ready at (key_if (is_ready y) key)) a.ready ∙ ap (set (map ready_in places) at) is
+          ∙ sym (map-set ready_in places at y);
+      unsettled = ap (λ unsettled. set unsettled at (is_unsettled y)) a.unsettled
+          ∙ sym (map-set is_unsettled places at y);
       pins = ap (λ pins. set pins at (pin_in y)) a.pins ∙ sym (map-set pin_in places at y);
       touches = a.touches ∙ sym (length-set places at y);
     }
@@ -121,7 +128,8 @@ kept-changed limit spare places g pool at p q k here key bytes =
       };
       sound = sound-set places at (Some q) within k.sound record { bytes = bytes; number = rw key sound.number };
       distinct = distinct-set places at (Some q) within k.distinct
-          (λ i a b h e same. let is : b.key ≡ p.key = sym (ap (λ (r : Held). r.key) (some-is q b e)) ∙ key in k.distinct i at a p h here (same ∙ is));
+          (λ i a b h e same. let is : b.key ≡ p.key = sym (ap (λ (r : Held). r.key) (some-is q b e)) ∙ key in
+          k.distinct i at a p h here (same ∙ is));
       ready = rw many k.ready;
     }
   where
@@ -129,18 +137,23 @@ kept-changed limit spare places g pool at p q k here key bytes =
     some-is a b e = cc
 
 -- other bytes alone
-pub kept-bytes : (limit spare : ℕ) (places : List (Option Held)) (g : Guided) (pool : Pooled) (at : ℕ) (p : Held) (bytes : List ℕ)
+pub kept-bytes : (limit spare : ℕ) (places : List (Option Held)) (g : Guided) (pool : Pooled) (at : ℕ) (p : Held)
+    (bytes : List ℕ)
     → IsKept limit spare places g pool → get_or places at None ≡ Some p → length bytes ≡ 4096
     → IsKept limit spare (set places at (Some record p { bytes = bytes })) g pool
 kept-bytes limit spare places g pool at p bytes k here len =
     let q : Held = record p { bytes = bytes } in
     let changed = kept-changed limit spare places g pool at p q k here refl len in
-    let keys : map key_in (set places at (Some q)) ≡ map key_in places = map-set_same key_in places at (Some q) None (sym (ap key_in here)) in
-    let idle : map is_idle (set places at (Some q)) ≡ map is_idle places = map-set_same is_idle places at (Some q) None (sym (ap is_idle here)) in
-    let ready : map ready_in (set places at (Some q)) ≡ map ready_in places = map-set_same ready_in places at (Some q) None (sym (ap ready_in here)) in
+    let keys : map key_in (set places at (Some q)) ≡ map key_in places =
+    map-set_same key_in places at (Some q) None (sym (ap key_in here)) in
+    let idle : map is_idle (set places at (Some q)) ≡ map is_idle places =
+    map-set_same is_idle places at (Some q) None (sym (ap is_idle here)) in
+    let ready : map ready_in (set places at (Some q)) ≡ map ready_in places =
+    map-set_same ready_in places at (Some q) None (sym (ap ready_in here)) in
     let unsettled : map is_unsettled (set places at (Some q)) ≡ map is_unsettled places =
     map-set_same is_unsettled places at (Some q) None (sym (ap is_unsettled here)) in
-    let pins : map pin_in (set places at (Some q)) ≡ map pin_in places = map-set_same pin_in places at (Some q) None (sym (ap pin_in here)) in
+    let pins : map pin_in (set places at (Some q)) ≡ map pin_in places =
+    map-set_same pin_in places at (Some q) None (sym (ap pin_in here)) in
     record {
       some = changed.some;
       few = changed.few;
@@ -161,9 +174,11 @@ kept-bytes limit spare places g pool at p bytes k here len =
 
 -- a page that comes
 pub kept-entered : (limit spare : ℕ) (places : List (Option Held)) (g : Guided) (pool : Pooled) (at : ℕ) (q : Held)
-    → IsKept limit spare places g pool → at < length places → get_or places at None ≡ None → 0 < spare → count_by is_some places < limit
+    → IsKept limit spare places g pool → at < length places → get_or places at None ≡ None → 0 < spare
+    → count_by is_some places < limit
     → IsSound q → ((i : ℕ) (p : Held) → get_or places i None ≡ Some p → p.key ≢ q.key)
-    → IsKept limit (spare - 1) (set places at (Some q)) (marked (record g { keys = set g.keys at (Some q.key) }) at q.key (mark_in (Some q)))
+    → IsKept limit (spare - 1) (set places at (Some q))
+    (marked (record g { keys = set g.keys at (Some q.key) }) at q.key (mark_in (Some q)))
     (record pool { pages = pool.pages - 1 })
 kept-entered limit spare places g pool at q k within here some room sound absent =
     let many : count_by is_some (set places at (Some q)) ≡ count_by is_some places + 1 =
@@ -217,7 +232,8 @@ kept-left limit spare places g pool at p k here =
 
 -- other touches
 pub kept-touched : (limit spare : ℕ) (places : List (Option Held)) (g : Guided) (pool : Pooled) (touches : List ℕ)
-    → IsKept limit spare places g pool → length touches ≡ length g.touches → IsKept limit spare places (record g { touches = touches }) pool
+    → IsKept limit spare places g pool → length touches ≡ length g.touches
+    → IsKept limit spare places (record g { touches = touches }) pool
 kept-touched limit spare places g pool touches k len =
     record {
       some = k.some;
@@ -238,7 +254,8 @@ kept-touched limit spare places g pool touches k len =
     }
 
 -- another pool
-pub kept-pool : (limit spare more : ℕ) (places : List (Option Held)) (g : Guided) (pool new : Pooled) → IsKept limit spare places g pool
+pub kept-pool : (limit spare more : ℕ) (places : List (Option Held)) (g : Guided) (pool new : Pooled)
+    → IsKept limit spare places g pool
     → new.places ≡ pool.places → IsReady limit more (count_by is_some places) new → IsKept limit more places g new
 kept-pool limit spare more places g pool new k len ready =
     record {
@@ -253,8 +270,10 @@ kept-pool limit spare more places g pool new k len ready =
     }
 
 -- a pool that has more
-pub kept-more : (limit spare free n : ℕ) (places : List (Option Held)) (g : Guided) (pool new : Pooled) → IsKept limit spare places g pool
-    → free + count_by is_some places ≡ limit → new.places ≡ pool.places → pool.pages ≤ new.pages → new.pages ≤ max pool.pages (min free n)
+pub kept-more : (limit spare free n : ℕ) (places : List (Option Held)) (g : Guided) (pool new : Pooled)
+    → IsKept limit spare places g pool
+    → free + count_by is_some places ≡ limit → new.places ≡ pool.places → pool.pages ≤ new.pages
+    → new.pages ≤ max pool.pages (min free n)
     → pool.runs ≤ new.runs → IsKept limit spare places g new
 kept-more limit spare free n places g pool new k is len pages no_more runs =
     kept-pool limit spare spare places g pool new k len
@@ -267,8 +286,10 @@ kept-more limit spare free n places g pool new k is len pages no_more runs =
     }
 
 -- a pool that has what is asked for
-pub kept-roomed : (limit spare free n : ℕ) (places : List (Option Held)) (g : Guided) (pool new : Pooled) → IsKept limit spare places g pool
-    → free + count_by is_some places ≡ limit → new.places ≡ pool.places → pool.pages ≤ new.pages → new.pages ≤ max pool.pages (min free n)
+pub kept-roomed : (limit spare free n : ℕ) (places : List (Option Held)) (g : Guided) (pool new : Pooled)
+    → IsKept limit spare places g pool
+    → free + count_by is_some places ≡ limit → new.places ≡ pool.places → pool.pages ≤ new.pages
+    → new.pages ≤ max pool.pages (min free n)
     → pool.runs ≤ new.runs → min free n ≤ new.pages → n ≤ new.runs → IsKept limit n places g new
 kept-roomed limit spare free n places g pool new k is len pages no_more runs enough_pages enough_runs =
     let more = kept-more limit spare free n places g pool new k is len pages no_more runs in

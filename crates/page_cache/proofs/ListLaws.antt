@@ -18,20 +18,23 @@ pub empty-place : {X : Type 0} (n i : ℕ) → get_or (empty_places X n) i None 
 empty-place {X} n i =
     elim (cases_lt i n) [
       | inl inside ↦ get_or-replicate n i None None inside
-      | inr past ↦ get_or_past (empty_places X n) i None (let len : length (empty_places X n) ≡ n = length-replicate n None in rw len past)
+      | inr past ↦ get_or_past (empty_places X n) i None (let len : length (empty_places X n) ≡ n =
+          length-replicate n None in rw len past)
     ]
 
 abbrev one : {X : Type 0} → (X → Bool) → X → ℕ
 one test x = cond (test x) 1 0
 
 -- no place is counted where none passes
-pub count-replicate : {X : Type 0} (test : X → Bool) (n : ℕ) (x : X) → test x ≡ false → count_by test (replicate n x) ≡ 0
+pub count-replicate : {X : Type 0} (test : X → Bool) (n : ℕ) (x : X) → test x ≡ false
+    → count_by test (replicate n x) ≡ 0
 count-replicate test n x fails =
     let none : one test x ≡ 0 = rw fails refl in
     let sum : count_by test (replicate n x) ≡ n * one test x = sum_by-replicate (one test) n x in
     sum ∙ (rw none (omega arith))
 
-pub count-map : {X Y : Type 0} (test : Y → Bool) (f : X → Y) (xs : List X) → count_by test (map f xs) ≡ count_by (λ x. test (f x)) xs
+pub count-map : {X Y : Type 0} (test : Y → Bool) (f : X → Y) (xs : List X)
+    → count_by test (map f xs) ≡ count_by (λ x. test (f x)) xs
 count-map test f [] = refl
 count-map test f (x ∷ xs) =
     sum_by-cons (one test) (f x) (map f xs)
@@ -44,15 +47,21 @@ count-same p q (x ∷ xs) same =
     let here : one p x ≡ one q x = rw (same x) refl in
     omega (arith, sum_by-cons (one p) x xs, sum_by-cons (one q) x xs, here, count-same p q xs same)
 
-pub count-below : {X : Type 0} (p q : X → Bool) (xs : List X) → ((x : X) → p x ≡ true → q x ≡ true) → count_by p xs ≤ count_by q xs
+pub count-below : {X : Type 0} (p q : X → Bool) (xs : List X) → ((x : X) → p x ≡ true → q x ≡ true)
+    → count_by p xs ≤ count_by q xs
 count-below p q [] within = omega arith
 count-below p q (x ∷ xs) within =
     let here : one p x ≤ one q x =
-    elim (cases_Bool (p x)) [ inl passes ↦ rw (passes, within x passes) (omega arith) | inr fails ↦ rw fails (omega arith) ] in
+    elim (cases_Bool (p x)) [
+      | inl passes ↦ rw (passes, within x passes) (omega arith)
+      | inr fails ↦ rw fails
+          (omega arith)
+    ] in
     omega (arith, sum_by-cons (one p) x xs, sum_by-cons (one q) x xs, here, count-below p q xs within)
 
 -- a list that is written back whole
-pub whole-items : (n : ℕ) (old new : List ℕ) → n ≡ length old → length new ≡ length old → take n (new ++ drop (length new) old) ≡ new
+pub whole-items : (n : ℕ) (old new : List ℕ) → n ≡ length old → length new ≡ length old
+    → take n (new ++ drop (length new) old) ≡ new
 whole-items n old new is len =
     let rest : drop (length new) old ≡ [] = drop_all (length new) old (omega arith) in
     rw (rest, append-nil new) (take_all n new (omega arith))

@@ -16,7 +16,8 @@ use Rattle.page_cache.proofs.SlotLaws.{page-key}
 use Rattle.page_cache.proofs.CallLaws.{restates, restates-keeps, restates-touches}
 
 -- a place that is written twice
-pub set-twice : (places v1 v2 : List (Option Held)) (at : ℕ) (y : Option Held) (f : Option Held → Option Held) → at < length places
+pub set-twice : (places v1 v2 : List (Option Held)) (at : ℕ) (y : Option Held) (f : Option Held → Option Held)
+    → at < length places
     → v1 ≡ set places at y → v2 ≡ set v1 at (f (get_or v1 at None)) → v2 ≡ set places at (f y)
 set-twice places v1 v2 at y f within first second =
     second ∙ ap (λ v. set v at (f (get_or v at None))) first
@@ -27,7 +28,8 @@ set-twice places v1 v2 at y f within first second =
 pub as-held : (b : Buf) (p : Held) (bytes : List ℕ) (tag : Option ℕ) (state : State) → is_page b (Some p) ≡ true
     → page_as b bytes tag state ≡ Some record { key = p.key; bytes = bytes; tag = tag; state = state }
 as-held b p bytes tag state own =
-    ap (option_map (λ key. let q : Held = record { key = key; bytes = bytes; tag = tag; state = state } in q)) (sym (page-key b (Some p) own))
+    ap (option_map (λ key. let q : Held = record { key = key; bytes = bytes; tag = tag; state = state } in q))
+    (sym (page-key b (Some p) own))
 
 pub as-keyed : (b : Buf) (key : PageKey) (bytes : List ℕ) (tag : Option ℕ) (state : State) → key_of b ≡ Some key
     → page_as b bytes tag state ≡ Some record { key = key; bytes = bytes; tag = tag; state = state }
@@ -60,27 +62,40 @@ key-there (Inode k) h = absurd h
 
 -- ---- a page that is written or loaded
 
-module _ (old new : Cached) (b : Buf) (at : ℕ) (p : Held) (placed : IsPlaced old.places b at) (here : get_or old.places at None ≡ Some p)
-    (e : new ≡ record old { places = set old.places at (with_state record p.state { busy = false } (get_or old.places at None)) }) where
+module _ (old new : Cached) (b : Buf) (at : ℕ) (p : Held) (placed : IsPlaced old.places b at)
+    (here : get_or old.places at None ≡ Some p)
+    (e : new ≡ record old {
+      places = set old.places at
+          (with_state record p.state { busy = false } (get_or old.places at None));
+    }) where
   writtens : new.places ≡ set old.places at (Some (written p))
-  writtens = ap (λ (c : Cached). c.places) e ∙ ap (λ x. set old.places at (with_state record p.state { busy = false } x)) here
+  writtens = ap (λ (c : Cached). c.places) e ∙ ap (λ x.
+      set old.places at (with_state record p.state { busy = false } x)) here
 
   pub written-page : ChangesOnly old new b (option_map written (page_of old b))
-  written-page = restates old new b at p (written p) written placed here refl refl writtens (ap (λ (c : Cached). c.limit) e)
+  written-page = restates old new b at p (written p) written placed here refl refl writtens
+      (ap (λ (c : Cached). c.limit) e)
 
   pub written-touches : KeepsTouches old new
-  written-touches = restates-keeps old new b at p (written p) written placed here refl refl writtens (ap (λ (c : Cached). c.touches) e)
+  written-touches = restates-keeps old new b at p (written p) written placed here refl refl writtens
+      (ap (λ (c : Cached). c.touches) e)
 
-module _ (v0 v1 v2 v3 : Cached) (b : Buf) (at : ℕ) (p : Held) (bytes : List ℕ) (placed : IsPlaced v0.places b at) (here : get_or v0.places at None ≡ Some p)
-    (e1 : v1 ≡ record v0 { places = set v0.places at (with_state record p.state { loading = false } (get_or v0.places at None)) })
+module _ (v0 v1 v2 v3 : Cached) (b : Buf) (at : ℕ) (p : Held) (bytes : List ℕ) (placed : IsPlaced v0.places b at)
+    (here : get_or v0.places at None ≡ Some p)
+    (e1 : v1 ≡ record v0 {
+      places = set v0.places at (with_state
+          record p.state { loading = false } (get_or v0.places at None));
+    })
     (e2 : v2 ≡ record v1 { places = set v1.places at (with_bytes (λ old. bytes) (get_or v1.places at None)) })
     (e3 : v3 ≡ record v2 { touches = v3.touches }) where
   first : v1.places ≡ set v0.places at (Some record p { state = record p.state { loading = false } })
-  first = ap (λ (c : Cached). c.places) e1 ∙ ap (λ x. set v0.places at (with_state record p.state { loading = false } x)) here
+  first = ap (λ (c : Cached). c.places) e1
+      ∙ ap (λ x. set v0.places at (with_state record p.state { loading = false } x)) here
 
   second : v2.places ≡ set v0.places at (Some (loaded bytes p))
   second =
-      set-twice v0.places v1.places v2.places at (Some record p { state = record p.state { loading = false } }) (with_bytes (λ old. bytes))
+      set-twice v0.places v1.places v2.places at (Some record p { state = record p.state { loading = false } })
+      (with_bytes (λ old. bytes))
       placed.slot.within first (ap (λ (c : Cached). c.places) e2)
 
   loads : v3.places ≡ set v0.places at (Some (loaded bytes p))
@@ -94,7 +109,8 @@ module _ (v0 v1 v2 v3 : Cached) (b : Buf) (at : ℕ) (p : Held) (bytes : List �
   pub loaded-touched : length v2.touches ≡ length v2.places → IsTouched v2.touches v3.touches at → Touches v0 v3 b
   loaded-touched len touched =
       let touches : v2.touches ≡ v0.touches = ap (λ (c : Cached). c.touches) e2 ∙ ap (λ (c : Cached). c.touches) e1 in
-      let same_len : length v2.places ≡ length v0.places = ap length second ∙ length-set v0.places at (Some (loaded bytes p)) in
+      let same_len : length v2.places ≡ length v0.places = ap length second
+      ∙ length-set v0.places at (Some (loaded bytes p)) in
       restates-touches v0 v3 b at p (loaded bytes p) (loaded bytes) placed here refl refl loads
       (sym (ap length touches) ∙ len ∙ same_len) (rw touches at touched)
 

@@ -28,14 +28,16 @@ pins-set chained pins at pin a =
       few = rw (length-set pins at pin) a.few;
       count = a.count;
       places =
-          ap (λ places. set places at (option_map chain_of pin)) a.places ∙ sym (map-set (option_map chain_of) pins at pin);
+          ap (λ places. set places at (option_map chain_of pin)) a.places
+          ∙ sym (map-set (option_map chain_of) pins at pin);
     }
 
 pub pins-inside : (chained : Chained) (pins : List (Option Pid)) (at : ℕ) → ArePinned chained pins → at < length pins
     → at < length chained.places
 pins-inside chained pins at a within = rw (a.places, length-map pins (option_map chain_of)) within
 
-pub inside-pins : (chained : Chained) (pins : List (Option Pid)) (at : ℕ) → ArePinned chained pins → at < length chained.places
+pub inside-pins : (chained : Chained) (pins : List (Option Pid)) (at : ℕ) → ArePinned chained pins
+    → at < length chained.places
     → at < length pins
 inside-pins chained pins at a within = rw (← length-map pins (option_map chain_of), ← a.places) within
 
@@ -69,12 +71,14 @@ first-linked : (places : List (Option ℕ)) (chain from : ℕ) (next : Option �
 first-linked places chain from None f = tt
 first-linked places chain from (Some at) f = linked-in chain (get_or places at None) f.1
 
-in-chain : (chained : Chained) (pins : List (Option Pid)) (by : Pid) (i : ℕ) → ArePinned chained pins → get_or pins i None ≡ Some by
+in-chain : (chained : Chained) (pins : List (Option Pid)) (by : Pid) (i : ℕ) → ArePinned chained pins
+    → get_or pins i None ≡ Some by
     → is_in (chain_of by) chained.places i ≡ true
 in-chain chained pins by i a here =
     rw (a.places, get_or-map (option_map chain_of) pins i None, here) (same-chain (chain_of by))
 
-first-upto : (test : ℕ → Bool) (from : ℕ) (next : Option ℕ) (i : ℕ) → IsFirst test from next → from ≤ i → test i ≡ true → UpTo next i
+first-upto : (test : ℕ → Bool) (from : ℕ) (next : Option ℕ) (i : ℕ) → IsFirst test from next → from ≤ i → test i ≡ true
+    → UpTo next i
 first-upto test from None i f behind is = let no = f i behind in absurd (cc)
 first-upto test from (Some at) i f behind is =
     elim (cases_lt i at) [
@@ -94,10 +98,12 @@ sought-start chained pins by next a within f =
     record {
       within = within-pins chained pins next a within;
       linked = first-linked chained.places (chain_of by) 0 next f;
-      before = λ i here. first-upto (is_in (chain_of by) chained.places) 0 next i f (omega arith) (in-chain chained pins by i a here);
+      before = λ i here. first-upto (is_in (chain_of by) chained.places) 0 next i f (omega arith)
+          (in-chain chained pins by i a here);
     }
 
-pub sought-more : (chained : Chained) (pins : List (Option Pid)) (by : Pid) (at : ℕ) (next : Option ℕ) → ArePinned chained pins
+pub sought-more : (chained : Chained) (pins : List (Option Pid)) (by : Pid) (at : ℕ) (next : Option ℕ)
+    → ArePinned chained pins
     → IsSought chained.places pins by (Some at) → get_or pins at None ≢ Some by
     → IfSome next (λ at. at < length chained.places) → IsFirst (is_in (chain_of by) chained.places) (at + 1) next
     → IsSought chained.places pins by next
@@ -110,11 +116,13 @@ sought-more chained pins by at next a sought other within f =
             | inl same ↦ absurd (other (rw (← same) here))
             | inr apart ↦
                 let behind = sought.before i here in
-                first-upto (is_in (chain_of by) chained.places) (at + 1) next i f (omega arith) (in-chain chained pins by i a here)
+                first-upto (is_in (chain_of by) chained.places) (at + 1) next i f (omega arith)
+                (in-chain chained pins by i a here)
           ];
     }
 
 -- the way to the end gets shorter
-pub nearer : (test : ℕ → Bool) (len at : ℕ) (next : Option ℕ) → at < len → IsFirst test (at + 1) next → left_from len next < left_from len (Some at)
+pub nearer : (test : ℕ → Bool) (len at : ℕ) (next : Option ℕ) → at < len → IsFirst test (at + 1) next
+    → left_from len next < left_from len (Some at)
 nearer test len at None within f = omega arith
 nearer test len at (Some next) within f = let behind = f.0 in omega arith

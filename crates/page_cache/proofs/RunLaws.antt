@@ -81,7 +81,8 @@ pub record FreesTo (before after : Tags) (old cur : Cached) (s : Serial) (n : �
   pub covers : Covers same (tags_in cur) after
   pub numbered : 0 < n → (k : Buf) → IsSome (page_of old k) → IsDataPage k
 
-pub frees-start : (tags : Tags) (old : Cached) (s : Serial) → Covers same (tags_in old) tags → FreesTo tags tags old old s 0
+pub frees-start : (tags : Tags) (old : Cached) (s : Serial) → Covers same (tags_in old) tags
+    → FreesTo tags tags old old s 0
 frees-start tags old s covers =
     record {
       pages = λ k. rw (among-none s 0 k) refl;
@@ -96,62 +97,76 @@ frees-start tags old s covers =
       numbered = λ some. absurd (omega arith);
     }
 
-count-more : (test : Buf → Bool) (s : Serial) (n : ℕ) → count_by test (pages_of s 0 (n + 1)) ≡ count_by test (pages_of s 0 n) + one_if (test (Page s n))
+count-more : (test : Buf → Bool) (s : Serial) (n : ℕ) → count_by test (pages_of s 0 (n + 1))
+    ≡ count_by test (pages_of s 0 n) + one_if (test (Page s n))
 count-more test s n = sum_by-map-range_with_len_more (λ k. cond (test k) 1 0) (Page s) 0 n n (omega arith)
 
 here-as : (s : Serial) (n : ℕ) → Page s (0 + n) ≡ Page s n
 here-as s n = let e : 0 + n ≡ n = omega arith in ap (Page s) e
 
-module _ (before mid after : Tags) (old cur new : Cached) (s : Serial) (n : ℕ) (so_far : FreesTo before mid old cur s n) where
-  still : page_of cur (Page s n) ≡ page_of old (Page s n)
-  still = let e : is_among s 0 n (Page s n) ≡ false = sym (ap (is_among s 0 n) (here-as s n)) ∙ among-next s 0 n in so_far.pages (Page s n) ∙ rw e refl
+module _ (before mid after : Tags) (old cur new : Cached) (s : Serial) (n : ℕ) (so_far : FreesTo before mid old cur s n)
+  where
+    still : page_of cur (Page s n) ≡ page_of old (Page s n)
+    still = let e : is_among s 0 n (Page s n) ≡ false = sym (ap (is_among s 0 n) (here-as s n)) ∙ among-next s 0 n in
+        so_far.pages (Page s n) ∙ rw e refl
 
-  -- the next page goes, or was none
-  pub frees-next : n < 1008 → ((k : Buf) → IsSome (page_of cur k) → IsDataPage k) → ChangesOnly cur new (Page s n) None → KeepsTouches cur new → new.spare ≡ cur.spare
-      → ((k : Buf) → k ≢ Page s n → causes_of after new k ≡ causes_of mid cur k)
-      → Moved mid after (held same (tags_in cur)) (held same (tags_in new)) → FreesTo before after old new s (n + 1)
-  frees-next low numbers change touches spare causes moved =
-      let b = Page s n in
-      let here : is_among s 0 (n + 1) b ≡ true = sym (ap (is_among s 0 (n + 1)) (here-as s n)) ∙ among-here s 0 n in
-      let more : (k : Buf) → k ≢ b → is_among s 0 (n + 1) k ≡ is_among s 0 n k =
-      λ k apart. among-more s 0 n k (λ e. apart (e ∙ here-as s n))
-      in
-      record {
-        pages = λ k.
-            page-or-not s n k
-            (λ is. rw (is, here) change.page)
-            (λ apart. change.others k apart ∙ so_far.pages k ∙ rw (more k apart) refl);
-        causes = λ k none.
-            page-or-not s n k
-            (λ is. let yes : is_among s 0 (n + 1) k ≡ true = rw is here in absurd (cc))
-            (λ apart. causes k apart ∙ so_far.causes k (sym (more k apart) ∙ none));
-        count =
-            let was : one_if (is_some (page_of cur b)) ≡ one_if (is_some (page_of old b)) = ap (λ p. one_if (is_some p)) still in
-            let none : one_if (is_some {T = Held} None) ≡ 0 = refl in
-            omega (arith, change.count, so_far.count, count-more (λ k. is_some (page_of old k)) s n, was, none);
-        unsettled =
-            let was : one_if (is_unsettled (page_of cur b)) ≡ one_if (is_unsettled (page_of old b)) = ap (λ p. one_if (is_unsettled p)) still in
-            let none : one_if (is_unsettled None) ≡ 0 = refl in
-            omega (arith, change.unsettled, so_far.unsettled, count-more (λ k. is_unsettled (page_of old k)) s n, was, none);
-        limit = change.limit ∙ so_far.limit;
-        spare = spare ∙ so_far.spare;
-        touches = λ k was is.
-            let between : IsSome (page_of cur k) =
-            page-or-not s n k
-            (λ e. let gone : page_of new k ≡ None = rw e change.page in let none : IsSome {T = Held} None = rw gone at is in absurd (cc))
-            (λ apart. rw (change.others k apart) at is)
-            in
-            touches k between is ∙ so_far.touches k was between;
-        moved = held-then before mid after (tags_in old) (tags_in cur) (tags_in new) so_far.moved moved;
-        covers = held-covers mid after (tags_in cur) (tags_in new) so_far.covers moved;
-        numbered = λ some k held_once.
-            elim (cases_Bool (is_among s 0 n k)) [
-              | inl gone ↦ among-data s n k low gone
-              | inr here_yet ↦
-                  let is_there : page_of cur k ≡ page_of old k = so_far.pages k ∙ rw here_yet refl in
-                  numbers k (rw is_there held_once)
-            ];
-      }
+    -- the next page goes, or was none
+    pub frees-next : n < 1008 → ((k : Buf) → IsSome (page_of cur k) → IsDataPage k) → ChangesOnly cur new (Page s n) None
+        → KeepsTouches cur new → new.spare ≡ cur.spare
+        → ((k : Buf) → k ≢ Page s n → causes_of after new k ≡ causes_of mid cur k)
+        → Moved mid after (held same (tags_in cur)) (held same (tags_in new)) → FreesTo before after old new s (n + 1)
+    frees-next low numbers change touches spare causes moved =
+        let b = Page s n in
+        let here : is_among s 0 (n + 1) b ≡ true = sym (ap (is_among s 0 (n + 1)) (here-as s n)) ∙ among-here s 0 n in
+        let more : (k : Buf) → k ≢ b → is_among s 0 (n + 1) k ≡ is_among s 0 n k =
+        λ k apart. among-more s 0 n k (λ e. apart (e ∙ here-as s n))
+        in
+        record {
+          pages = λ k.
+              page-or-not s n k
+              (λ is. rw (is, here) change.page)
+              (λ apart. change.others k apart ∙ so_far.pages k ∙ rw (more k apart) refl);
+          causes = λ k none.
+              page-or-not s n k
+              (λ is. let yes : is_among s 0 (n + 1) k ≡ true = rw is here in absurd (cc))
+              (λ apart. causes k apart ∙ so_far.causes k (sym (more k apart) ∙ none));
+          count =
+              let was : one_if (is_some (page_of cur b)) ≡ one_if (is_some (page_of old b)) =
+              ap (λ p. one_if (is_some p)) still in
+              let none : one_if (is_some {T = Held} None) ≡ 0 = refl in
+              omega (arith, change.count, so_far.count, count-more (λ k. is_some (page_of old k)) s n, was, none);
+          unsettled =
+              let was : one_if (is_unsettled (page_of cur b)) ≡ one_if (is_unsettled (page_of old b)) =
+              ap (λ p. one_if (is_unsettled p)) still in
+              let none : one_if (is_unsettled None) ≡ 0 = refl in
+              omega (
+                arith,
+                change.unsettled,
+                so_far.unsettled,
+                count-more (λ k. is_unsettled (page_of old k)) s n,
+                was,
+                none,
+              );
+          limit = change.limit ∙ so_far.limit;
+          spare = spare ∙ so_far.spare;
+          touches = λ k was is.
+              let between : IsSome (page_of cur k) =
+              page-or-not s n k
+              (λ e. let gone : page_of new k ≡ None = rw e change.page in
+              let none : IsSome {T = Held} None = rw gone at is in absurd (cc))
+              (λ apart. rw (change.others k apart) at is)
+              in
+              touches k between is ∙ so_far.touches k was between;
+          moved = held-then before mid after (tags_in old) (tags_in cur) (tags_in new) so_far.moved moved;
+          covers = held-covers mid after (tags_in cur) (tags_in new) so_far.covers moved;
+          numbered = λ some k held_once.
+              elim (cases_Bool (is_among s 0 n k)) [
+                | inl gone ↦ among-data s n k low gone
+                | inr here_yet ↦
+                    let is_there : page_of cur k ≡ page_of old k = so_far.pages k ∙ rw here_yet refl in
+                    numbers k (rw is_there held_once)
+              ];
+        }
 
 -- the first pages of a file are among so many of it, and those of another file aren't
 among-below : (s t : Serial) (h n : ℕ) → h < n → is_among s 0 n (Page t h) ≡ is_of s (Page t h)
@@ -161,7 +176,8 @@ among-others : (s t : Serial) (h n : ℕ) → is_of s (Page t h) ≡ false → i
 among-others s t h n other = grind (arith, nat_tests)
 
 -- all pages of a file are gone through
-pub frees-all : (before after : Tags) (old new : Cached) (s : Serial) → FreesTo before after old new s 1008 → Frees before after old new s
+pub frees-all : (before after : Tags) (old new : Cached) (s : Serial) → FreesTo before after old new s 1008
+    → Frees before after old new s
 frees-all before after old new s done =
     record {
       pages = λ k. done.pages k ∙ as-file k;
@@ -179,10 +195,12 @@ frees-all before after old new s done =
         absent None h = refl
         absent (Some p) h = absurd (h refl)
 
-    as-file : (k : Buf) → (if is_among s 0 1008 k then None else page_of old k) ≡ (if is_of s k then None else page_of old k)
+    as-file : (k : Buf) → (if is_among s 0 1008 k then None else page_of old k)
+        ≡ (if is_of s k then None else page_of old k)
     as-file (Page t h) =
         elim (cases_lt h 1008) [
-          | inl low ↦ let e : is_among s 0 1008 (Page t h) ≡ is_of s (Page t h) = among-below s t h 1008 low in rw e refl
+          | inl low ↦ let e : is_among s 0 1008 (Page t h) ≡ is_of s (Page t h) = among-below s t h 1008 low in
+              rw e refl
           | inr high ↦
               let none = none-above (Page t h) (λ low. omega arith) in
               rw none (one-none (is_among s 0 1008 (Page t h)) None ∙ sym (one-none (is_of s (Page t h)) None))

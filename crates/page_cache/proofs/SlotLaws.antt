@@ -50,7 +50,8 @@ page-key Bitmap (Some p) h = absurd (cc)
 page-key (Dir k) (Some p) h = absurd (cc)
 page-key (Inode k) (Some p) h = absurd (cc)
 
-pub key-page : (s : Serial) (g : ℕ) (x : Option Held) → key_in x ≡ Some record { serial = s.0; page = g } → is_page (Page s g) x ≡ true
+pub key-page : (s : Serial) (g : ℕ) (x : Option Held) → key_in x ≡ Some record { serial = s.0; page = g }
+    → is_page (Page s g) x ≡ true
 key-page s g None h = absurd (cc)
 key-page s g (Some p) h =
     let key : PageKey = record { serial = s.0; page = g } in
@@ -80,7 +81,10 @@ page-one b k (Some p) h j = sym (page-buf k p j) ∙ page-buf b p h
 pub page-other : (b k : Buf) (x : Option Held) → is_page b x ≡ is_some x → k ≢ b → is_page k x ≡ false
 page-other b k None own apart = refl
 page-other b k (Some p) own apart =
-    elim (cases_Bool (is_page k (Some p))) [ inl is ↦ absurd (apart (page-one b k (Some p) own is)) | inr other ↦ other ]
+    elim (cases_Bool (is_page k (Some p))) [
+      | inl is ↦ absurd (apart (page-one b k (Some p) own is))
+      | inr other ↦ other
+    ]
 
 -- ---- where a page is
 
@@ -93,7 +97,8 @@ page-absent b places none =
       | inr past ↦ get_or_past places at None past
     ]
 
-pub absent-page : (b : Buf) (places : List (Option Held)) → get_or places (position_or_len (is_page b) places) None ≡ None
+pub absent-page : (b : Buf) (places : List (Option Held))
+    → get_or places (position_or_len (is_page b) places) None ≡ None
     → (i : ℕ) → is_page b (get_or places i None) ≡ false
 absent-page b places none i =
     let at = position_or_len (is_page b) places in
@@ -109,7 +114,8 @@ absent-page b places none i =
                       absurd (cc)
                 ]
             | inr past ↦
-                let no : is_page b (get_or places i None) ≡ false = rw (get_or_past places i None past) refl in absurd (cc)
+                let no : is_page b (get_or places i None) ≡ false = rw (get_or_past places i None past) refl in
+                absurd (cc)
           ]
       | inr other ↦ other
     ]
@@ -164,7 +170,8 @@ slot-place b places at x slot some =
 
 -- ---- a place is written
 
-module _ (b : Buf) (places : List (Option Held)) (at : ℕ) (x y : Option Held) (slot : IsSlot places b at x) (own : is_page b y ≡ is_some y) where
+module _ (b : Buf) (places : List (Option Held)) (at : ℕ) (x y : Option Held) (slot : IsSlot places b at x)
+    (own : is_page b y ≡ is_some y) where
   pub slot-set : IsSlot (set places at y) b at y
   slot-set =
       let within : at < length (set places at y) = rw (length-set places at y) slot.within in
@@ -182,13 +189,15 @@ module _ (b : Buf) (places : List (Option Held)) (at : ℕ) (x y : Option Held) 
             let none : (i : ℕ) → is_page b (get_or (set places at y) i None) ≡ false =
             λ i.
             elim (cases_Bool (is_page b (get_or (set places at y) i None))) [
-              | inl is ↦ let e = only i is in let f : is_page b (get_or (set places at y) i None) ≡ false = rw (e, here) empty in absurd (cc)
+              | inl is ↦ let e = only i is in let f : is_page b (get_or (set places at y) i None) ≡ false =
+                  rw (e, here) empty in absurd (cc)
               | inr not_it ↦ not_it
             ]
             in
             let gone : y ≡ None = none-from y (sym own ∙ empty) in
             let as_slot : Option Held → Type 0 = λ z. IsSlot (set places at y) b at z in
-            subst as_slot (sym gone) (slot-free b (set places at y) at within (here ∙ gone) (page-absent b (set places at y) none))
+            subst as_slot (sym gone) (slot-free b (set places at y) at within (here
+            ∙ gone) (page-absent b (set places at y) none))
       ]
     where
       none-from : (z : Option Held) → is_some z ≡ false → z ≡ None
@@ -196,7 +205,8 @@ module _ (b : Buf) (places : List (Option Held)) (at : ℕ) (x y : Option Held) 
       none-from (Some p) h = absurd (cc)
 
   -- no other page moves
-  pub other-place : (k : Buf) → k ≢ b → position_or_len (is_page k) (set places at y) ≡ position_or_len (is_page k) places
+  pub other-place : (k : Buf) → k ≢ b → position_or_len (is_page k) (set places at y)
+      ≡ position_or_len (is_page k) places
   other-place k apart =
       position_or_len-set (is_page k) places at y None
       (page-other b k y own apart ∙ sym (ap (is_page k) slot.here ∙ page-other b k x slot.own apart))
@@ -219,12 +229,14 @@ module _ (b : Buf) (places : List (Option Held)) (at : ℕ) (x y : Option Held) 
 abbrev one : (Option Held → Bool) → Option Held → ℕ
 one test x = cond (test x) 1 0
 
-pub count-set : (test : Option Held → Bool) (places : List (Option Held)) (at : ℕ) (x y : Option Held) → at < length places
+pub count-set : (test : Option Held → Bool) (places : List (Option Held)) (at : ℕ) (x y : Option Held)
+    → at < length places
     → get_or places at None ≡ x
     → count_by test (set places at y) + one_if (test x) ≡ count_by test places + one_if (test y)
 count-set test places at x y within here = rw (← here) (sum_by-set (one test) places at y None within)
 
-pub tags-set : (places : List (Option Held)) (at : ℕ) (x y : Option Held) (n : ℕ) → at < length places → get_or places at None ≡ x
+pub tags-set : (places : List (Option Held)) (at : ℕ) (x y : Option Held) (n : ℕ) → at < length places
+    → get_or places at None ≡ x
     → held same (map tag_in (set places at y)) n + use_in same (tag_in x) n
     ≡ held same (map tag_in places) n + use_in same (tag_in y) n
 tags-set places at x y n within here =
@@ -274,9 +286,11 @@ slot-touches old new b at x y slot own some e len touched =
     λ k apart. rw e (other-place b old.places at x y slot own k apart)
     in
     record {
-      last = λ k apart held. rw here (touched.last (position_or_len (is_page k) new.places) (within k held) (elsewhere k apart held));
+      last = λ k apart held. rw here (touched.last (position_or_len (is_page k) new.places) (within k held)
+          (elsewhere k apart held));
       order = λ j k j_apart k_apart j_held k_held before.
-          touched.order (position_or_len (is_page j) new.places) (position_or_len (is_page k) new.places) (within j j_held) (within k k_held)
+          touched.order (position_or_len (is_page j) new.places) (position_or_len (is_page k) new.places)
+          (within j j_held) (within k k_held)
           (elsewhere j j_apart j_held) (elsewhere k k_apart k_held) (rw (stays j j_apart, stays k k_apart) before);
     }
 
@@ -299,7 +313,8 @@ slot-keeps old new b at x y slot own e touches k was is =
                 absurd (cc)
             | inr neither ↦
                 let stays : position_or_len (is_page k) new.places ≡ position_or_len (is_page k) old.places =
-                rw e (position_or_len-set (is_page k) old.places at y None (neither ∙ sym (ap (is_page k) slot.here ∙ elsewhere)))
+                rw e (position_or_len-set (is_page k) old.places at y None (neither
+                ∙ sym (ap (is_page k) slot.here ∙ elsewhere)))
                 in
                 rw (touches, stays) refl
           ]

@@ -16,7 +16,8 @@ two-held xs at i n within apart =
 
 -- a tag comes, then that of a place is released, and the first is put there
 module _ (xs : List (Option ℕ)) (at t : ℕ) (before mid after : Tags) (came : Moved before mid no_use (one_use t))
-    (went : Moved mid after (use_in same (get_or xs at None)) no_use) (covers : Covers same xs before) (within : at < length xs) where
+    (went : Moved mid after (use_in same (get_or xs at None)) no_use) (covers : Covers same xs before)
+    (within : at < length xs) where
   pub put-moved : Moved before after (held same xs) (held same (set xs at (Some t)))
   put-moved =
       record {
@@ -40,7 +41,8 @@ module _ (xs : List (Option ℕ)) (at t : ℕ) (before mid after : Tags) (came :
 
 -- the tag of a place is released
 module _ (xs : List (Option ℕ)) (at : ℕ) (before after : Tags)
-    (went : Moved before after (use_in same (get_or xs at None)) no_use) (covers : Covers same xs before) (within : at < length xs) where
+    (went : Moved before after (use_in same (get_or xs at None)) no_use) (covers : Covers same xs before)
+    (within : at < length xs) where
   pub gone-moved : Moved before after (held same xs) (held same (set xs at None))
   gone-moved =
       record {
@@ -59,7 +61,8 @@ module _ (xs : List (Option ℕ)) (at : ℕ) (before after : Tags)
 pub held-then : (before mid after : Tags) (xs ys zs : List (Option ℕ)) → Moved before mid (held same xs) (held same ys)
     → Moved mid after (held same ys) (held same zs) → Moved before after (held same xs) (held same zs)
 held-then before mid after xs ys zs a b =
-    moved-then before mid after (held same xs) (held same ys) (held same ys) (held same zs) (held same xs) (held same zs) a b
+    moved-then before mid after (held same xs) (held same ys) (held same ys) (held same zs) (held same xs)
+    (held same zs) a b
     (λ n. omega arith) (λ n. omega arith) (λ n. omega arith)
 
 -- what is held is covered again
@@ -68,5 +71,10 @@ pub held-covers : (before after : Tags) (xs ys : List (Option ℕ)) → Covers s
 held-covers before after xs ys covers m n = omega (arith, m.uses n, covers n)
 
 -- nothing moves, so nothing does for what is held
-pub still-held : (before after : Tags) (xs : List (Option ℕ)) → Moved before after no_use no_use → Moved before after (held same xs) (held same xs)
-still-held before after xs m = record { uses = λ n. omega (arith, m.uses n); keeps = λ n some. m.keeps n (omega (arith, some)) }
+pub still-held : (before after : Tags) (xs : List (Option ℕ)) → Moved before after no_use no_use
+    → Moved before after (held same xs) (held same xs)
+still-held before after xs m = record {
+  uses = λ n. omega (arith, m.uses n);
+  keeps = λ n some.
+      m.keeps n (omega (arith, some));
+}

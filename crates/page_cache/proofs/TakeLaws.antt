@@ -30,7 +30,8 @@ taken-some : (x : Option Held) → is_some (option_map taken x) ≡ is_some x
 taken-some None = refl
 taken-some (Some p) = refl
 
-taken-own : (b : Buf) (x : Option Held) → is_page b x ≡ is_some x → is_page b (option_map taken x) ≡ is_some (option_map taken x)
+taken-own : (b : Buf) (x : Option Held) → is_page b x ≡ is_some x
+    → is_page b (option_map taken x) ≡ is_some (option_map taken x)
 taken-own b None own = refl
 taken-own b (Some p) own = own
 
@@ -62,11 +63,13 @@ ready-tagged (Some p) h = dirty-only (is_some p.tag) (not p.state.busy) h
     dirty-only true other h = refl
     dirty-only false other h = absurd (cc)
 
-among-as : (s : Serial) (g n : ℕ) (k : Buf) (x : Option Held) → is_among s g n k ≡ true → option_map (taken_among s g n k) x ≡ option_map taken x
+among-as : (s : Serial) (g n : ℕ) (k : Buf) (x : Option Held) → is_among s g n k ≡ true
+    → option_map (taken_among s g n k) x ≡ option_map taken x
 among-as s g n k None e = refl
 among-as s g n k (Some p) e = rw e refl
 
-among-not : (s : Serial) (g n : ℕ) (k : Buf) (x : Option Held) → is_among s g n k ≡ false → option_map (taken_among s g n k) x ≡ x
+among-not : (s : Serial) (g n : ℕ) (k : Buf) (x : Option Held) → is_among s g n k ≡ false
+    → option_map (taken_among s g n k) x ≡ x
 among-not s g n k None e = refl
 among-not s g n k (Some p) e = rw e refl
 
@@ -88,7 +91,8 @@ pub record TakesTo (before after : Tags) (old cur : Cached) (s : Serial) (g n : 
   pub moved : Moved before after (held same (tags_in old)) (held same (tags_in cur))
   pub covers : Covers same (tags_in cur) after
 
-pub takes-start : (tags : Tags) (old : Cached) (s : Serial) (g : ℕ) → Covers same (tags_in old) tags → TakesTo tags tags old old s g 0
+pub takes-start : (tags : Tags) (old : Cached) (s : Serial) (g : ℕ) → Covers same (tags_in old) tags
+    → TakesTo tags tags old old s g 0
 takes-start tags old s g covers =
     record {
       pages = λ k. sym (among-not s g 0 k (page_of old k) (among-none s g k));
@@ -108,10 +112,12 @@ pub takes-still : (before after : Tags) (old cur : Cached) (s : Serial) (g n : �
 takes-still before after old cur s g n so_far =
     so_far.pages (Page s (g + n)) ∙ among-not s g n (Page s (g + n)) (page_of old (Page s (g + n))) (among-next s g n)
 
-pub takes-more : (before mid after : Tags) (old cur new : Cached) (s : Serial) (g n at : ℕ) → TakesTo before mid old cur s g n
+pub takes-more : (before mid after : Tags) (old cur new : Cached) (s : Serial) (g n at : ℕ)
+    → TakesTo before mid old cur s g n
     → IsReady old (Page s (g + n)) → IsPlaced cur.places (Page s (g + n)) at
     → new ≡ record cur { places = set cur.places at (option_map taken (get_or cur.places at None)) }
-    → Moved mid after (use_in same (tag_in (get_or cur.places at None))) no_use → TakesTo before after old new s g (n + 1)
+    → Moved mid after (use_in same (tag_in (get_or cur.places at None))) no_use
+    → TakesTo before after old new s g (n + 1)
 takes-more before mid after old cur new s g n at so_far ready placed e went =
     let b = Page s (g + n) in
     let x = get_or cur.places at None in
@@ -122,7 +128,8 @@ takes-more before mid after old cur new s g n at so_far ready placed e went =
     let change = slot-changes cur new b at x y placed.slot own places (ap (λ (c : Cached). c.limit) e) in
     let ready_x : is_ready x ≡ true = rw (← placed.slot.page, still) ready in
     let inside : at < length (tags_in cur) = rw (length-map cur.places tag_in) placed.slot.within in
-    let went_at : Moved mid after (use_in same (get_or (tags_in cur) at None)) no_use = rw (tag-at cur.places at) went in
+    let went_at : Moved mid after (use_in same (get_or (tags_in cur) at None)) no_use =
+    rw (tag-at cur.places at) went in
     let tags : tags_in new ≡ set (tags_in cur) at None =
     ap (map tag_in) places ∙ map-set tag_in cur.places at y ∙ ap (set (tags_in cur) at) (taken-clean x) in
     let keeps = slot-keeps cur new b at x y placed.slot own places (ap (λ (c : Cached). c.touches) e) in
@@ -136,15 +143,18 @@ takes-more before mid after old cur new s g n at so_far ready placed e went =
           let as_x : x ≡ page_of old b = sym placed.slot.page ∙ still in
           rw is (change.page ∙ ap (option_map taken) as_x ∙ sym (among-as s g (n + 1) b (page_of old b) here)))
           (λ apart.
-          change.others k apart ∙ so_far.pages k ∙ among-same s g n (n + 1) k (page_of old k) (sym (among-more s g n k apart)));
+          change.others k apart ∙ so_far.pages k ∙ among-same s g n (n + 1) k (page_of old k)
+          (sym (among-more s g n k apart)));
       causes = λ k none.
           page-or-not s (g + n) k
           (λ is. let yes : is_among s g (n + 1) k ≡ true = rw is (among-here s g n) in absurd (cc))
           (λ apart.
-          other-causes mid after cur new b k at x y placed.slot own places apart (gone-others (tags_in cur) at mid after went_at so_far.covers inside)
+          other-causes mid after cur new b k at x y placed.slot own places apart
+          (gone-others (tags_in cur) at mid after went_at so_far.covers inside)
           ∙ so_far.causes k (sym (among-more s g n k apart) ∙ none));
       count =
-          let was : one_if (is_some (page_of cur b)) ≡ one_if (is_some x) = ap (λ p. one_if (is_some p)) placed.slot.page in
+          let was : one_if (is_some (page_of cur b)) ≡ one_if (is_some x) =
+          ap (λ p. one_if (is_some p)) placed.slot.page in
           let is : one_if (is_some y) ≡ one_if (is_some x) = ap one_if (taken-some x) in
           omega (arith, change.count, so_far.count, was, is);
       unsettled =
@@ -169,11 +179,13 @@ takes-more before mid after old cur new s g n at so_far ready placed e went =
 abbrev pub bytes_of : Cached → Serial → ℕ → ℕ → List ℕ
 bytes_of c s g n = flat_map (λ b. bytes_in (page_of c b)) (pages_of s g n)
 
-pub bytes-more : (c : Cached) (s : Serial) (g n : ℕ) → bytes_of c s g (n + 1) ≡ bytes_of c s g n ++ bytes_in (page_of c (Page s (g + n)))
+pub bytes-more : (c : Cached) (s : Serial) (g n : ℕ) → bytes_of c s g (n + 1) ≡ bytes_of c s g n
+    ++ bytes_in (page_of c (Page s (g + n)))
 bytes-more c s g n =
     let f : Buf → List ℕ = λ b. bytes_in (page_of c b) in
     let one : flat_map f (Page s (g + n) ∷ []) ≡ f (Page s (g + n)) = grind (arith, common_steps) in
-    ap (flat_map f) (map-range_with_len_more (Page s) g n (g + n) refl) ∙ flat_map-append f (pages_of s g n) (Page s (g + n) ∷ [])
+    ap (flat_map f) (map-range_with_len_more (Page s) g n (g + n) refl)
+    ∙ flat_map-append f (pages_of s g n) (Page s (g + n) ∷ [])
     ∙ ap (λ last. bytes_of c s g n ++ last) one
 
 -- ---- a tag with the members of theirs
@@ -185,10 +197,12 @@ pub record WholeTo (before now : Tags) (c : Cached) (s : Serial) (g n whole : �
   pub spare : before.spare ≤ now.spare + n
 
 -- the tag of a page
-pub page-tag : (tags : Tags) (c : Cached) (b : Buf) (t : ℕ) → tag_in (page_of c b) ≡ Some t → causes_of tags c b ≡ tags.members t
+pub page-tag : (tags : Tags) (c : Cached) (b : Buf) (t : ℕ) → tag_in (page_of c b) ≡ Some t
+    → causes_of tags c b ≡ tags.members t
 page-tag tags c b t e = rw e refl
 
-pub tag-live : (tags : Tags) (c : Cached) (b : Buf) (t : ℕ) → Covers same (tags_in c) tags → tag_in (page_of c b) ≡ Some t → 1 ≤ tags.uses t
+pub tag-live : (tags : Tags) (c : Cached) (b : Buf) (t : ℕ) → Covers same (tags_in c) tags
+    → tag_in (page_of c b) ≡ Some t → 1 ≤ tags.uses t
 tag-live tags c b t covers e =
     let as_use : Option ℕ → Type 0 = λ x. use_in same x t ≤ tags.uses t in
     let below : use_in same (Some t) t ≤ tags.uses t =
@@ -203,22 +217,28 @@ whole-start before now c s g t whole e moved members is_set spare =
     record {
       moved = moved;
       members =
-          let first : causes_of before c (Page s g) ≡ now.members whole = page-tag before c (Page s g) t e ∙ sym members in
+          let first : causes_of before c (Page s g) ≡ now.members whole = page-tag before c (Page s g) t e
+          ∙ sym members in
           rw first (sym (union-one (now.members whole) is_set));
       spare = spare;
     }
 
 -- one page more
-pub whole-more : (before now after : Tags) (c : Cached) (s : Serial) (g n whole t both : ℕ) → WholeTo before now c s g n whole
-    → Covers same (tags_in c) before → tag_in (page_of c (Page s (g + n))) ≡ Some t → Moved now after (one_use whole) (one_use both)
+pub whole-more : (before now after : Tags) (c : Cached) (s : Serial) (g n whole t both : ℕ)
+    → WholeTo before now c s g n whole
+    → Covers same (tags_in c) before → tag_in (page_of c (Page s (g + n))) ≡ Some t
+    → Moved now after (one_use whole) (one_use both)
     → after.members both ≡ union_of (now.members whole ∷ now.members t ∷ []) → now.spare ≤ after.spare + 1
     → WholeTo before after c s g (n + 1) both
 whole-more before now after c s g n whole t both so_far covers e m members less =
     let b = Page s (g + n) in
     let live = tag-live before c b t covers e in
-    let other : now.members t ≡ causes_of before c b = so_far.moved.keeps t (omega (arith, live)) ∙ sym (page-tag before c b t e) in
-    let lists : map (causes_of before c) (pages_of s g (n + 1)) ≡ map (causes_of before c) (pages_of s g n) ++ causes_of before c b ∷ [] =
-    ap (map (causes_of before c)) (map-range_with_len_more (Page s) g n (g + n) refl) ∙ map_push (causes_of before c) (pages_of s g n) b in
+    let other : now.members t ≡ causes_of before c b = so_far.moved.keeps t (omega (arith, live))
+    ∙ sym (page-tag before c b t e) in
+    let lists : map (causes_of before c) (pages_of s g (n + 1)) ≡ map (causes_of before c) (pages_of s g n)
+    ++ causes_of before c b ∷ [] =
+    ap (map (causes_of before c)) (map-range_with_len_more (Page s) g n (g + n) refl)
+    ∙ map_push (causes_of before c) (pages_of s g n) b in
     record {
       moved = record {
         uses = λ k. omega (arith, so_far.moved.uses k, m.uses k);
@@ -244,11 +264,13 @@ whole-fails before now after c s g n whole so_far m =
 -- ---- the whole call
 
 -- all is taken: what the cache was before the room was made
-pub takes-all : (before after : Tags) (first old new : Cached) (s : Serial) (g n : ℕ) → old.places ≡ first.places → old.touches ≡ first.touches
+pub takes-all : (before after : Tags) (first old new : Cached) (s : Serial) (g n : ℕ) → old.places ≡ first.places
+    → old.touches ≡ first.touches
     → old.limit ≡ first.limit → TakesTo before after old new s g n → ChangesEach first new (taken_among s g n)
 takes-all before after first old new s g n places touches limit t =
     record {
-      pages = λ k. t.pages k ∙ ap (λ ps. option_map (taken_among s g n k) (get_or ps (position_or_len (is_page k) ps) None)) places;
+      pages = λ k. t.pages k
+          ∙ ap (λ ps. option_map (taken_among s g n k) (get_or ps (position_or_len (is_page k) ps) None)) places;
       count = t.count ∙ ap (count_by is_some) places;
       unsettled = t.unsettled ∙ ap (count_by is_unsettled) places;
       limit = t.limit ∙ limit;
@@ -259,8 +281,10 @@ takes-all before after first old new s g n places touches limit t =
           ∙ ap (λ ts. get_or ts (position_or_len (is_page k) first.places) 0) touches;
     }
 
-module _ (start before after : Tags) (first old new : Cached) (s : Serial) (g n whole : ℕ) (places : old.places ≡ first.places)
-    (came : Moved start before no_use (one_use whole)) (covers : Covers same (tags_in first) start) (t : TakesTo before after old new s g n) where
+module _ (start before after : Tags) (first old new : Cached) (s : Serial) (g n whole : ℕ) (places : old.places
+    ≡ first.places)
+    (came : Moved start before no_use (one_use whole)) (covers : Covers same (tags_in first) start)
+    (t : TakesTo before after old new s g n) where
   moved_so : Moved before after (held same (tags_in first)) (held same (tags_in new))
   moved_so = rw (ap (map tag_in) places) at t.moved
 
@@ -284,7 +308,8 @@ module _ (start before after : Tags) (first old new : Cached) (s : Serial) (g n 
       (λ m. omega (arith, tag-covered start first.places at covers m))
 
   pub takes-bytes : bytes_of old s g n ≡ bytes_of first s g n
-  takes-bytes = ap (λ ps. flat_map (λ b. bytes_in (get_or ps (position_or_len (is_page b) ps) None)) (pages_of s g n)) places
+  takes-bytes = ap (λ ps. flat_map (λ b. bytes_in (get_or ps (position_or_len (is_page b) ps) None)) (pages_of s g n))
+      places
 
 -- ---- what the condition gives
 
@@ -302,7 +327,8 @@ module _ (c : Cached) (s : Serial) (g n : ℕ) (ready : (k : ℕ) → k < n → 
       omega (arith, last)
 
 -- a page that is ready is held, with a tag
-pub placed-tagged : (c : Cached) (b : Buf) (at : ℕ) → IsReady c b → IsPlaced c.places b at → IsSome (tag_in (get_or c.places at None))
+pub placed-tagged : (c : Cached) (b : Buf) (at : ℕ) → IsReady c b → IsPlaced c.places b at
+    → IsSome (tag_in (get_or c.places at None))
 placed-tagged c b at ready placed = rw (← placed.slot.page) (ready-tagged (page_of c b) ready)
 
 pub placed-tag : (c : Cached) (b : Buf) (at t : ℕ) → IsPlaced c.places b at → Some t ≡ tag_in (get_or c.places at None)
@@ -316,6 +342,7 @@ pub ready-as : (v w : Cached) (b : Buf) → w.places ≡ v.places → IsReady v 
 ready-as v w b places h = rw places h
 
 -- what an extension that succeeds holds
-pub extended : {X E : Type 0} (r : Result X E) (now more old : List ℕ) → now ≡ (if is_ok r then more else old) → IsOk r → now ≡ more
+pub extended : {X E : Type 0} (r : Result X E) (now more old : List ℕ) → now ≡ (if is_ok r then more else old) → IsOk r
+    → now ≡ more
 extended (Ok x) now more old e h = e
 extended (Err x) now more old e h = absurd (cc)

@@ -24,7 +24,8 @@ pub record ChangesOnly (old new : Cached) (b : Buf) (now : Option Held) : Type 0
   pub page : page_of new b ≡ now
   pub others : (k : Buf) → k ≢ b → page_of new k ≡ page_of old k
   pub count : held_in new + one_if (is_some (page_of old b)) ≡ held_in old + one_if (is_some now)
-  pub unsettled : unsettled_in new + one_if (is_unsettled (page_of old b)) ≡ unsettled_in old + one_if (is_unsettled now)
+  pub unsettled : unsettled_in new + one_if (is_unsettled (page_of old b))
+      ≡ unsettled_in old + one_if (is_unsettled now)
   pub tags :
       (n : ℕ) → held same (tags_in new) n + use_in same (tag_in (page_of old b)) n
       ≡ held same (tags_in old) n + use_in same (tag_in now) n

@@ -42,7 +42,8 @@ pub(crate) fn merged<S: TagStore>(
 ) -> Result<S::Tag, AllocError>
     requires whole { 1 ≤ (S.now tags.old).uses (S.number whole) }
     requires other { 1 ≤ (S.now tags.old).uses (S.number other.now) }
-    ensures moved { IfOk result (λ t. Moved (S.now tags.old) (S.now tags.new) (one_use (S.number whole)) (one_use (S.number t))) }
+    ensures moved { IfOk result (λ t. Moved (S.now tags.old) (S.now tags.new) (one_use (S.number whole))
+        (one_use (S.number t))) }
     ensures set { IfOk result (λ t. (S.now tags.new).members (S.number t)
         ≡ union_of ((S.now tags.old).members (S.number whole) ∷ (S.now tags.old).members (S.number other.now) ∷ [])) }
     ensures err { OnErr result (Moved (S.now tags.old) (S.now tags.new) (one_use (S.number whole)) no_use) }

@@ -23,11 +23,13 @@ pub parent-more : (h : List Event) (parents : List ℕ) (k : ℕ) (j : ℕ) (sta
     → causes ≡ union_of (start ∷ map (blame h) (take k parents)) → k < length parents → j ≡ get_or parents k 0
     → new ≡ union_of (causes ∷ blame h j ∷ []) → new ≡ union_of (start ∷ map (blame h) (take (k + 1) parents))
 parent-more h parents k j start causes new is lt at news =
-    let one : take (k + 1) parents ≡ take k parents ++ j ∷ [] = take_more parents k 0 lt ∙ ap (λ x. take k parents ++ x ∷ []) (sym at) in
+    let one : take (k + 1) parents ≡ take k parents ++ j ∷ [] = take_more parents k 0 lt
+    ∙ ap (λ x. take k parents ++ x ∷ []) (sym at) in
     news
     ∙ ap (λ c. union_of (c ∷ blame h j ∷ [])) is
     ∙ union-flat (start ∷ map (blame h) (take k parents)) (blame h j ∷ [])
-    ∙ ap (λ l. union_of (start ∷ l)) (sym (map-append (blame h) (take k parents) (j ∷ [])) ∙ ap (map (blame h)) (sym one))
+    ∙ ap (λ l. union_of (start ∷ l)) (sym (map-append (blame h) (take k parents) (j ∷ []))
+    ∙ ap (map (blame h)) (sym one))
 
 -- with all parents the causes are the blame
 pub all-parents : (h : List Event) (e : Event) (i k : ℕ) (parents start causes : List ℕ)
@@ -45,6 +47,7 @@ all-parents h e i k parents start causes at are begun full is =
 pub parent-below : (h : List Event) (e : Event) (i k j : ℕ) (parents : List ℕ)
     → event_at h i ≡ Some e → parents ≡ parents_of (older h i) e → k < length parents → j ≡ get_or parents k 0 → j < i
 parent-below h e i k j parents at are lt is =
-    let among : has parents j ≡ true = list_any_at (λ q. q == j) parents k 0 lt (eq-eqb (get_or parents k 0) j (sym is)) in
+    let among : has parents j ≡ true = list_any_at (λ q. q == j) parents k 0 lt (eq-eqb (get_or parents k 0) j (sym is))
+    in
     let low = parents-below (older h i) e j (subst (λ l. has l j ≡ true) are among) in
     omega (arith, length-older_at h i (omega (arith, event_at-within h e i at)))

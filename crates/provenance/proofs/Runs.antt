@@ -8,7 +8,8 @@ use Rattle.split_types.specs.Parents.{metadata_buffers, buffer_at}
 
 -- the open dirtyings of one buffer more
 pub run-more : (walk : Buf → List ℕ) (of : ℕ → Buf) (a n j : ℕ) (old new : List ℕ)
-    → new ≡ old ++ walk (of j) → old ≡ flat_map walk (map of (range_with_len a n)) → a + n ≡ j → new ≡ flat_map walk (map of (range_with_len a (n + 1)))
+    → new ≡ old ++ walk (of j) → old ≡ flat_map walk (map of (range_with_len a n)) → a + n ≡ j
+    → new ≡ flat_map walk (map of (range_with_len a (n + 1)))
 run-more walk of a n j old new news olds is =
     news
     ∙ ap (λ places. places ++ walk (of j)) olds

@@ -6,4 +6,5 @@ use Rattle.split_types.proofs.Shared.{has-union_of, none-is_set, union-is_set, s
 
 pub stranger : (p : ℕ) → has pids p ≡ false → [] ≡ union_of ((p ∷ []) ∷ [])
 stranger p not_there =
-    set-same [] (union_of ((p ∷ []) ∷ [])) none-is_set (union-is_set ((p ∷ []) ∷ [])) (λ q h. grind (arith, nat_tests, has-union_of ((p ∷ []) ∷ []) q))
+    set-same [] (union_of ((p ∷ []) ∷ [])) none-is_set (union-is_set ((p ∷ []) ∷ [])) (λ q h.
+    grind (arith, nat_tests, has-union_of ((p ∷ []) ∷ []) q))

@@ -66,7 +66,8 @@ fn open_in_round<L: Ledger>(
 ) -> Result<PlaceList, AllocError>
     requires within { count ≤ length h.now.events }
     requires short { length h.now.events ≤ 2 ^ 32 }
-    ensures { IfOk result (λ places. places ≡ flat_map (λ seal. open_at seal.before (buffer_at block)) (round_of (older h.now.events count) t)) }
+    ensures { IfOk result (λ places. places ≡ flat_map (λ seal. open_at seal.before (buffer_at block))
+        (round_of (older h.now.events count) t)) }
 {
     let seals = round_places(alloc, h, count, t, steps)?;
     let mut places = PlaceList::new(alloc);

@@ -22,7 +22,8 @@ fn push_dirtied(
     target: &Target,
     places: &mut PlaceList,
 ) -> Result<(), AllocError>
-    ensures { OnOk result (places.new ≡ places.old ++ (if is_dirtied e.now (buffer_of target.now) then place ∷ [] else [])) }
+    ensures { OnOk result (places.new ≡ places.old ++ (if is_dirtied e.now (buffer_of target.now) then place ∷ []
+        else [])) }
 {
     if is_dirtied(e, target) {
         places.push(place)?;

@@ -13,7 +13,8 @@ fine_before {failed_before = false} h f = refl
 fine_before {failed_before = true} h f = absurd (cc (f, (h.skipped refl).0))
 
 -- more of the text was handed over
-more : (before was now : Option (List ℕ)) (whole bytes rest : List ℕ) → Underway before was whole [] (bytes ++ rest) → Appends was now bytes → Underway before now whole [] rest
+more : (before was now : Option (List ℕ)) (whole bytes rest : List ℕ) → Underway before was whole [] (bytes ++ rest)
+    → Appends was now bytes → Underway before now whole [] rest
 more before was now whole bytes rest u a = record {
   handed = u.handed ++ bytes;
   parts = u.parts ∙ sym (append_assoc u.handed bytes rest);
@@ -21,16 +22,20 @@ more before was now whole bytes rest u a = record {
 }
 
 -- a front of what was due is a front of the text
-front_more : (before was now : Option (List ℕ)) (whole bytes rest : List ℕ) → Underway before was whole [] (bytes ++ rest) → AppendsFront was now bytes → AppendsFront before now whole
+front_more : (before was now : Option (List ℕ)) (whole bytes rest : List ℕ)
+    → Underway before was whole [] (bytes ++ rest) → AppendsFront was now bytes → AppendsFront before now whole
 front_more before was now whole bytes rest u (front, behind, parts, a) = (
   u.handed ++ front,
   behind ++ rest,
-  u.parts ∙ ap (λ l. u.handed ++ (l ++ rest)) parts ∙ ap (λ l. u.handed ++ l) (append_assoc front behind rest) ∙ sym (append_assoc u.handed front (behind ++ rest)),
+  u.parts ∙ ap (λ l. u.handed ++ (l ++ rest)) parts ∙ ap (λ l. u.handed ++ l) (append_assoc front behind rest)
+      ∙ sym (append_assoc u.handed front (behind ++ rest)),
   Appends-trans _ _ _ _ _ u.appended a,
 )
 
-pub hands_due : {K : Type 0} {told : Told K} {start was now : K} {failed_before failed : Bool} (whole bytes rest : List ℕ)
-    → Due told start whole was [] failed_before (bytes ++ rest) → Hands told was failed_before now failed bytes → Due told start whole now [] failed rest
+pub hands_due : {K : Type 0} {told : Told K} {start was now : K} {failed_before failed : Bool}
+    (whole bytes rest : List ℕ)
+    → Due told start whole was [] failed_before (bytes ++ rest) → Hands told was failed_before now failed bytes
+    → Due told start whole now [] failed rest
 hands_due {told} {start} {failed_before = true} {failed = true} whole bytes rest d h = record {
   later = omega (arith, d.later, h.later);
   same_room = h.same_room ∙ d.same_room;
@@ -66,7 +71,11 @@ kept_due whole kept rest d = record {
 }
 
 -- the same where what is kept has a name
-pub hands_kept : {K : Type 0} {told : Told K} {start was now : K} {failed_before failed : Bool} (whole kept bytes rest : List ℕ) → kept ≡ []
-    → Due told start whole was kept failed_before (bytes ++ rest) → Hands told was failed_before now failed bytes → Due told start whole now kept failed rest
-hands_kept {told = told} {start = start} {was = was} {now = now} {failed_before = failed_before} {failed = failed} whole kept bytes rest empty d h =
-    subst (λ k. Due told start whole now k failed rest) (sym empty) (hands_due whole bytes rest (subst (λ k. Due told start whole was k failed_before (bytes ++ rest)) empty d) h)
+pub hands_kept : {K : Type 0} {told : Told K} {start was now : K} {failed_before failed : Bool}
+    (whole kept bytes rest : List ℕ) → kept ≡ []
+    → Due told start whole was kept failed_before (bytes ++ rest) → Hands told was failed_before now failed bytes
+    → Due told start whole now kept failed rest
+hands_kept {told = told} {start = start} {was = was} {now = now} {failed_before = failed_before} {failed = failed} whole
+    kept bytes rest empty d h =
+    subst (λ k. Due told start whole now k failed rest) (sym empty)
+    (hands_due whole bytes rest (subst (λ k. Due told start whole was k failed_before (bytes ++ rest)) empty d) h)

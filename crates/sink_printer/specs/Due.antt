@@ -16,8 +16,10 @@ pub record Underway (before now : Option (List ℕ)) (whole kept rest : List ℕ
   pub parts : whole ≡ handed ++ (kept ++ rest)
   pub appended : Appends before now handed
 
--- of a text that was begun when the sink was as at the start: what the sink has now, where it didn't fail and where it did
-pub record Due {K : Type 0} (told : Told K) (start : K) (whole : List ℕ) (now : K) (kept : List ℕ) (failed : Bool) (rest : List ℕ) : Type 0 where
+-- of a text that was begun when the sink was as at the start: what the sink has now, where it didn't fail and where it
+-- did
+pub record Due {K : Type 0} (told : Told K) (start : K) (whole : List ℕ) (now : K) (kept : List ℕ) (failed : Bool)
+    (rest : List ℕ) : Type 0 where
   pub later : told.faults start ≤ told.faults now
   pub same_room : told.room now ≡ told.room start
   pub fine : failed ≡ false → Underway (told.held start) (told.held now) whole kept rest
@@ -25,7 +27,8 @@ pub record Due {K : Type 0} (told : Told K) (start : K) (whole : List ℕ) (now 
   pub rose : failed ≡ true → Rose (told.faults start) (told.faults now)
 
 -- bytes were handed to the sink, but where it had failed before
-pub record Hands {K : Type 0} (told : Told K) (before : K) (failed_before : Bool) (now : K) (failed : Bool) (bytes : List ℕ) : Type 0 where
+pub record Hands {K : Type 0} (told : Told K) (before : K) (failed_before : Bool) (now : K) (failed : Bool)
+    (bytes : List ℕ) : Type 0 where
   pub later : told.faults before ≤ told.faults now
   pub same_room : told.room now ≡ told.room before
   pub skipped : failed_before ≡ true → (failed ≡ true) × (now ≡ before)

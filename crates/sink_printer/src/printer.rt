@@ -30,7 +30,8 @@ impl<K> Drop for SinkPrinter<'_, K> {
 
 /// Hands bytes to a sink, unless it failed before, and says whether it has failed.
 fn hand<K: Sink>(sink: &mut K, failed: bool, bytes: &[u8]) -> bool
-    ensures { Hands (record { held = K.held; faults = K.faults; room = K.room }) sink.old failed sink.new result bytes.now }
+    ensures { Hands (record { held = K.held; faults = K.faults; room = K.room }) sink.old failed sink.new result
+        bytes.now }
 {
     failed || write_all(sink, bytes).is_err()
 }
@@ -88,7 +89,8 @@ impl<'a, K: Sink> SinkPrinter<'a, K> {
         ensures { (start : SinkPrinter K) (whole : List ℕ)
             → DueAt (record { held = K.held; faults = K.faults; room = K.room }) start whole self.old []
             → (self.new.sink.ghost_name ≡ start.sink.ghost_name)
-            × Sent (record { held = K.held; faults = K.faults; room = K.room }) start.sink.now self.new.sink.now whole result }
+            × Sent (record { held = K.held; faults = K.faults; room = K.room }) start.sink.now self.new.sink.now whole
+            result }
     {
         self.flush();
         if self.failed { Err(Failed) } else { Ok(()) }

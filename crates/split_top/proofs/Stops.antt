@@ -15,7 +15,8 @@ use Rattle.split_top.specs.declared.call.Status.TheVariants as status
 use Rattle.split_top.specs.Replay.{text_of, run_of}
 use Rattle.split_top.specs.Answers.{AnswersTo, Answers, Writes, WritesAnswer, Replies}
 
-pub fails : {K : Type 0} {told : Told K} {before now : K} {text : List ℕ} {sent : Result ⊤ Failed} {failed : Failed} {result : Result ⊤ Stop}
+pub fails : {K : Type 0} {told : Told K} {before now : K} {text : List ℕ} {sent : Result ⊤ Failed} {failed : Failed}
+    {result : Result ⊤ Stop}
     → Sent told before now text sent → sent ≡ Err failed → result ≡ Err stop.Write → Writes told before now text result
 fails {told = told} {before = before} {now = now} {text = text} {failed = failed} s is wrote =
     let front : Sent told before now text (Err failed) = subst (λ r. Sent told before now text r) is s in
@@ -29,8 +30,10 @@ fails {told = told} {before = before} {now = now} {text = text} {failed = failed
     })
 
 -- an answer that was written as a whole
-pub answers : {K : Type 0} {told : Told K} {before now : K} (input text : List ℕ) (s : Status) {sent : Result ⊤ Stop} {u : ⊤}
-    → AnswersTo input text s → Writes told before now text sent → sent ≡ Ok u → WritesAnswer told before now input (Ok s)
+pub answers : {K : Type 0} {told : Told K} {before now : K} (input text : List ℕ) (s : Status) {sent : Result ⊤ Stop}
+    {u : ⊤}
+    → AnswersTo input text s → Writes told before now text sent → sent ≡ Ok u
+    → WritesAnswer told before now input (Ok s)
 answers {told = told} {before = before} {now = now} input text s {u = u} answer w is =
     let whole : Writes told before now text (Ok u) = subst (λ r. Writes told before now text r) is w in
     record {
@@ -43,8 +46,10 @@ answers {told = told} {before = before} {now = now} input text s {u = u} answer 
     }
 
 -- an answer that wasn't
-pub stops : {K : Type 0} {told : Told K} {before now : K} (input text : List ℕ) (s : Status) {sent : Result ⊤ Stop} {e : Stop} {result : Result Status Stop}
-    → AnswersTo input text s → Writes told before now text sent → sent ≡ Err e → result ≡ Err e → WritesAnswer told before now input result
+pub stops : {K : Type 0} {told : Told K} {before now : K} (input text : List ℕ) (s : Status) {sent : Result ⊤ Stop}
+    {e : Stop} {result : Result Status Stop}
+    → AnswersTo input text s → Writes told before now text sent → sent ≡ Err e → result ≡ Err e
+    → WritesAnswer told before now input result
 stops {told = told} {before = before} {now = now} input text s {e = stop.Write} answer w is same =
     subst (λ r. WritesAnswer told before now input r) (sym same) (record {
       whole = tt;
@@ -82,8 +87,10 @@ is_run input w spells =
     )
 
 -- the same of an answer to what was left of a source
-pub replies_stop : {K : Type 0} {told : Told K} {before now : K} (left left_now : Option (List ℕ)) (text : List ℕ) (s : Status) {sent : Result ⊤ Stop} {e : Stop} {result : Result Status Stop}
-    → Answers left left_now text s → Writes told before now text sent → sent ≡ Err e → result ≡ Err e → Replies told left left_now before now result
+pub replies_stop : {K : Type 0} {told : Told K} {before now : K} (left left_now : Option (List ℕ)) (text : List ℕ)
+    (s : Status) {sent : Result ⊤ Stop} {e : Stop} {result : Result Status Stop}
+    → Answers left left_now text s → Writes told before now text sent → sent ≡ Err e → result ≡ Err e
+    → Replies told left left_now before now result
 replies_stop {told = told} {before = before} {now = now} left left_now text s {e = stop.Write} answer w is same =
     subst (λ r. Replies told left left_now before now r) (sym same) (record {
       whole = tt;

@@ -42,9 +42,12 @@ pub record Writes {K : Type 0} (told : Told K) (before now : K) (text : List ℕ
   pub same_room : told.room now ≡ told.room before
 
 -- what came of answering an input
-pub record WritesAnswer {K : Type 0} (told : Told K) (before now : K) (input : List ℕ) (result : Result Status Stop) : Type 0 where
-  pub whole : IfOk result (λ s. (text : List ℕ) × AnswersTo input text s × Appends (told.held before) (told.held now) text)
-  pub front : result ≡ Err stop.Write → (text : List ℕ) × (s : Status) × AnswersTo input text s × AppendsFront (told.held before) (told.held now) text
+pub record WritesAnswer {K : Type 0} (told : Told K) (before now : K) (input : List ℕ) (result : Result Status Stop) :
+    Type 0 where
+  pub whole : IfOk result (λ s. (text : List ℕ) × AnswersTo input text s
+      × Appends (told.held before) (told.held now) text)
+  pub front : result ≡ Err stop.Write → (text : List ℕ) × (s : Status) × AnswersTo input text s
+      × AppendsFront (told.held before) (told.held now) text
   pub rose : result ≡ Err stop.Write → Rose (told.faults before) (told.faults now)
   pub none : result ≡ Err stop.Memory → now ≡ before
   pub no_read : result ≢ Err stop.Read
@@ -64,7 +67,8 @@ pub record WroteFront (left left_now held held_now : Option (List ℕ)) : Type 0
   pub written : AppendsFront held held_now text
 
 -- what came of answering what was left of a source
-pub record Replies {K : Type 0} (told : Told K) (left left_now : Option (List ℕ)) (before now : K) (result : Result Status Stop) : Type 0 where
+pub record Replies {K : Type 0} (told : Told K) (left left_now : Option (List ℕ)) (before now : K)
+    (result : Result Status Stop) : Type 0 where
   pub whole : IfOk result (λ s. Wrote left left_now (told.held before) (told.held now) s)
   pub front : result ≡ Err stop.Write → WroteFront left left_now (told.held before) (told.held now)
   pub rose : result ≡ Err stop.Write → Rose (told.faults before) (told.faults now)

@@ -7,7 +7,8 @@ use Rattle.split_top.specs.declared.call.Status.TheVariants as status
 use Rattle.split_top.specs.Command.{command_of}
 use Rattle.split_top.specs.Answers.{Wrote, WroteFront}
 
--- what a source of type S and a sink of type K tell of themselves: the bytes left, the bytes held, the counts of faults, and
+-- what a source of type S and a sink of type K tell of themselves: the bytes left, the bytes held, the counts of
+-- faults, and
 -- how many bytes the sink can hold
 pub record Told (S K : Type 0) : Type 0 where
   pub left : S → Option (List ℕ)
@@ -17,17 +18,21 @@ pub record Told (S K : Type 0) : Type 0 where
   pub room : K → Option ℕ
 
 -- what a call with these words did to its source and its sink, by its status
-pub record Outcome {S K : Type 0} (told : Told S K) (words : List (List ℕ)) (source_old source : S) (sink_old sink : K) (s : Status) : Type 0 where
+pub record Outcome {S K : Type 0} (told : Told S K) (words : List (List ℕ)) (source_old source : S) (sink_old sink : K)
+    (s : Status) : Type 0 where
   -- the whole input was read, and its answer was written as a whole
-  pub ok : s ≡ status.Ok → Wrote (told.left source_old) (told.left source) (told.held sink_old) (told.held sink) status.Ok
+  pub ok : s ≡ status.Ok → Wrote (told.left source_old) (told.left source) (told.held sink_old) (told.held sink)
+      status.Ok
   pub all_read : s ≡ status.Ok → IsAtEnd (told.left source)
   -- what was read is the text of no accepted workload, and one line was written
-  pub refused : s ≡ status.Refused → Wrote (told.left source_old) (told.left source) (told.held sink_old) (told.held sink) status.Refused
+  pub refused : s ≡ status.Refused → Wrote (told.left source_old) (told.left source) (told.held sink_old)
+      (told.held sink) status.Refused
   -- exactly where the words ask for nothing; and then source and sink are as before
   pub bad_words : (s ≡ status.BadWords) ↔ (command_of words ≡ None)
   pub untouched : s ≡ status.BadWords → (source ≡ source_old) × (sink ≡ sink_old)
   -- only where the source failed, and the sink is as before
-  pub read_fault : s ≡ status.ReadFault → Rose (told.read_faults source_old) (told.read_faults source) × (sink ≡ sink_old)
+  pub read_fault : s ≡ status.ReadFault → Rose (told.read_faults source_old) (told.read_faults source)
+      × (sink ≡ sink_old)
   -- only where the sink failed, and a front of the answer was written
   pub write_fault : s ≡ status.WriteFault → Rose (told.write_faults sink_old) (told.write_faults sink)
       × WroteFront (told.left source_old) (told.left source) (told.held sink_old) (told.held sink)

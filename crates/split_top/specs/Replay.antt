@@ -24,7 +24,8 @@ pub record IsReplay (input : List ℕ) (w : Workload) (h : List Event) (text : L
   pub run : h ≡ run_of w
   -- each event is the next one of its actor, all calls returned, all that was dirtied is written out
   pub whole : IsWhole w h
-  -- each request has processes that pay for it and is done at most once, what they bear adds up to its cost, and all bills to
+  -- each request has processes that pay for it and is done at most once, what they bear adds up to its cost, and all
+  -- bills to
   -- the clock
   pub conserves : Conserves w h
   pub text_is : text ≡ text_of w h

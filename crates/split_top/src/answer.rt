@@ -131,7 +131,8 @@ fn replay<K: Sink, L: Ledger>(
 
 /// Writes the line that refuses an input.
 fn refuse<K: Sink>(alloc: Global, fault: LineFault, sink: &mut K) -> Result<(), Stop>
-    ensures { Writes (record { held = K.held; faults = K.faults; room = K.room }) sink.old sink.new (refusal_text fault) result }
+    ensures { Writes (record { held = K.held; faults = K.faults; room = K.room }) sink.old sink.new (refusal_text fault)
+        result }
 {
     let text = refusal(alloc, fault)?;
     write_all(sink, &text)?;
@@ -147,7 +148,8 @@ fn read(alloc: Global, input: Vec<u8>) -> Result<Workload, ReadWorkload>
 
 /// Answers a whole input.
 fn answer<K: Sink>(alloc: Global, input: Vec<u8>, sink: &mut K) -> Result<Status, Stop>
-    ensures { WritesAnswer (record { held = K.held; faults = K.faults; room = K.room }) sink.old sink.new input.items result }
+    ensures { WritesAnswer (record { held = K.held; faults = K.faults; room = K.room }) sink.old sink.new input.items
+        result }
 {
     match read(alloc, input) {
         Err(ReadWorkload::Memory) => Err(Stop::Memory),

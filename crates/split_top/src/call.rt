@@ -33,11 +33,14 @@ pub enum Status {
 
 /// Answers what the source has left, and writes the answer to the sink.
 fn run<S: Source, K: Sink>(alloc: Global, source: &mut S, sink: &mut K) -> Status
-    ensures ok { result ≡ Status.Ok → Wrote (S.left source.old) (S.left source.new) (K.held sink.old) (K.held sink.new) Status.Ok }
+    ensures ok { result ≡ Status.Ok → Wrote (S.left source.old) (S.left source.new) (K.held sink.old) (K.held sink.new)
+        Status.Ok }
     ensures all_read { result ≡ Status.Ok → IsAtEnd (S.left source.new) }
-    ensures refused { result ≡ Status.Refused → Wrote (S.left source.old) (S.left source.new) (K.held sink.old) (K.held sink.new) Status.Refused }
+    ensures refused { result ≡ Status.Refused → Wrote (S.left source.old) (S.left source.new) (K.held sink.old)
+        (K.held sink.new) Status.Refused }
     ensures bad_words { result ≢ Status.BadWords }
-    ensures read_fault { result ≡ Status.ReadFault → Rose (S.faults source.old) (S.faults source.new) × (sink.new ≡ sink.old) }
+    ensures read_fault { result ≡ Status.ReadFault → Rose (S.faults source.old) (S.faults source.new)
+        × (sink.new ≡ sink.old) }
     ensures write_fault { result ≡ Status.WriteFault → Rose (K.faults sink.old) (K.faults sink.new)
         × WroteFront (S.left source.old) (S.left source.new) (K.held sink.old) (K.held sink.new) }
     ensures out_of_memory { result ≡ Status.OutOfMemory → sink.new ≡ sink.old }
@@ -62,7 +65,14 @@ pub fn plain<S: Source, K: Sink>(
     source: &mut S,
     sink: &mut K,
 ) -> Status
-    ensures { Outcome (record { left = S.left; read_faults = S.faults; held = K.held; write_faults = K.faults; room = K.room })
+    ensures { Outcome (record {
+      left = S.left;
+      read_faults = S.faults;
+      held = K.held;
+      write_faults = K.faults;
+      room =
+          K.room;
+    })
         (map (λ word. word.now) words.now) source.old source.new sink.old sink.new result }
 {
     match command_of(words) {

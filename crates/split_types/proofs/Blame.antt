@@ -167,7 +167,8 @@ tag-blame (h ▹ e) i by r at = elim (cases_order i (length h)) [
   | inr (inl below) ↦
       (let there = sym (event_at-stays h e i below) ∙ at
       in let before : older (h ▹ e) i ≡ older h i = older-stays h e i (omega arith)
-      in ap (tag (h ▹ e)) (ap adds before) ∙ tag-stays h e (adds (older h i)) (adds-older h i by r there) ∙ tag-blame h i by r there ∙ sym (blame-stays h e i below))
+      in ap (tag (h ▹ e)) (ap adds before) ∙ tag-stays h e (adds (older h i)) (adds-older h i by r there)
+      ∙ tag-blame h i by r there ∙ sym (blame-stays h e i below))
   | inr (inr past) ↦ (let within = event_at-within (h ▹ e) (Add by r) i at in absurd (omega arith))
 ]
   where

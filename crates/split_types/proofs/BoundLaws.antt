@@ -81,12 +81,21 @@ tally_kept w h e facts (came_ret q name off len fill serial writing done) k =
     let more = one_more (acts h) q (length w.procs) writing.has.first writing.has.last
     in record { all = omega (arith, k.all, more); dirtied = k.dirtied; served = k.served }
 tally_kept w h e facts (came_serve s g none found) k =
-    record { all = omega (arith, k.all); dirtied = k.dirtied; served = later (subst (λ o. serves h ≤ adds h + cond (is_some o) 1 0) none k.served) }
+    record {
+      all = omega (arith, k.all);
+      dirtied = k.dirtied;
+      served =
+          later (subst (λ o. serves h ≤ adds h + cond (is_some o) 1 0) none k.served);
+    }
   where
     later : serves h ≤ adds h + 0 → serves h + 1 ≤ adds h + 1
     later l = omega arith
 tally_kept w h e facts (came_add run is) k =
-    record { all = omega (arith, k.all); dirtied = omega (arith, k.dirtied, dirty_add w h run (facts.serves run is)); served = later (subst (λ o. serves h ≤ adds h + cond (is_some o) 1 0) is k.served) }
+    record {
+      all = omega (arith, k.all);
+      dirtied = omega (arith, k.dirtied, dirty_add w h run (facts.serves run is));
+      served = later (subst (λ o. serves h ≤ adds h + cond (is_some o) 1 0) is k.served);
+    }
   where
     later : serves h ≤ adds h + 1 → serves h ≤ adds h + 1 + 0
     later l = omega arith

@@ -85,9 +85,11 @@ in_call w h p c e has n =
     ∣ next_of_admitted (client_state w h p) c)
     (Some e) n
     (λ out is. comes w h (Client p) (Enter p (returned h p.0)) e (came_enter p c has (not-true _ out)) refl is)
-    (λ inside rest. by_row (not (is_admitted h p.0)) (if admits w h p.0 then Some (Admit p) else None) (next_of_admitted (client_state w h p) c) (Some e) rest
+    (λ inside rest. by_row (not (is_admitted h p.0)) (if admits w h p.0 then Some (Admit p) else None)
+    (next_of_admitted (client_state w h p) c) (Some e) rest
     (λ out is. by_test (admits w h p.0) refl is
-    (λ may same. comes w h (Client p) (Admit p) e (came_admit p c has (not-false _ inside) (not-true _ out) may) refl same))
+    (λ may same. comes w h (Client p) (Admit p) e (came_admit p c has (not-false _ inside) (not-true _ out) may) refl
+    same))
     (λ admitted is. in_admitted w h p c e has (not-false _ inside) (not-false _ admitted) is))
   where
     by_test : {C : Type 0} (b : Bool) → admits w h p.0 ≡ b → (if b then Some (Admit p) else None) ≡ Some e

@@ -32,7 +32,8 @@ left_alone w h k r f at =
           in let same : first.element ≡ r =
           same_number (requests h) (unfinished h) first.place first.element r f.waiting.left_of first.there
           (f.waiting.flight_of k r at) first.passes
-          in (filter_one (is_numbered r.id) (unfinished h) first.place first.element first.there first.passes (omega arith)).0 ∙ ap (λ q. q ∷ []) same)
+          in (filter_one (is_numbered r.id) (unfinished h) first.place first.element first.there first.passes
+          (omega arith)).0 ∙ ap (λ q. q ∷ []) same)
     ]
 
 -- no more than one unfinished request writes a buffer

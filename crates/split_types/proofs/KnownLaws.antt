@@ -66,12 +66,13 @@ fifo_picks w h accepted = rw accepted.built.sched refl
 
 pub picked_there : (w : Workload) (h : List Event) (r : Request) → IsAccepted w → pick w h ≡ Some r
     → (k : ℕ) × (slice_get (queued h) k ≡ Some r)
-picked_there w h r accepted picked = elim (earlier_is (eligible_write h) (oldest_read h) r (sym (fifo_picks w h accepted) ∙ picked)) [
-  | inl write ↦
-      (let there = find_there is_write (queued h) r (eligible_is h (oldest_write h) r write)
-      in (there.0, there.1))
-  | inr read ↦ (let there = find_there (λ q. not (is_write q)) (queued h) r read in (there.0, there.1))
-]
+picked_there w h r accepted picked = elim (earlier_is (eligible_write h) (oldest_read h) r
+    (sym (fifo_picks w h accepted) ∙ picked)) [
+      | inl write ↦
+          (let there = find_there is_write (queued h) r (eligible_is h (oldest_write h) r write)
+          in (there.0, there.1))
+      | inr read ↦ (let there = find_there (λ q. not (is_write q)) (queued h) r read in (there.0, there.1))
+    ]
 
 -- ---- pages that are taken
 same_serial : (s t : Serial) → s.0 ≡ t.0 → s ≡ t
@@ -277,7 +278,19 @@ known_none w = record {
 -- one more event that comes next
 pub known_next : (w : Workload) (h : List Event) (e : Event) → IsAccepted w → Known w h → Came w h e → Known w (h ▹ e)
 known_next w h e accepted f (came_enter p c has out) =
-    record { numbered = f.numbered; waiting = f.waiting; unmade = f.unmade; runs = f.runs; serves = f.serves; takes = f.takes; files = f.files; bound_to = f.bound_to; small = f.small; going = f.going }
+    record {
+      numbered = f.numbered;
+      waiting = f.waiting;
+      unmade = f.unmade;
+      runs = f.runs;
+      serves = f.serves;
+      takes =
+          f.takes;
+      files = f.files;
+      bound_to = f.bound_to;
+      small = f.small;
+      going = f.going;
+    }
 known_next w h e accepted f (came_admit q c has is out may) = record {
   numbered = f.numbered;
   waiting = f.waiting;

@@ -17,7 +17,6 @@ pub mod KnownLaws
 pub mod PutLaws
 pub mod FreeLaws
 pub mod SumLaws
-pub mod Adds
 pub mod Lines
 pub mod DirtyLaws
 pub mod WorkLaws

@@ -1,5 +1,5 @@
 -- Laws of lists: places in lists that are joined, cut or filtered, what a search finds, and how many pass a test.
-use Rattle.std.proofs.Common.{◌≡◌, ℕ, zero, suc, ◌+◌, ◌<◌, ◌≤◌, List, [], ◌∷◌, ◌++◌, length, map, slice_get, take, drop, filter, find, Bool, true, false, not, ◌||◌, Some, None, refl, arith, subst, sym, inl, inr, cond, count_by, nat_lt, ◌⊎◌, ◌∙◌, ap}
+use Rattle.std.proofs.Common.{◌≡◌, ℕ, zero, suc, ◌+◌, ◌<◌, ◌≤◌, List, [], ◌∷◌, ◌++◌, length, map, slice_get, take, filter, find, Bool, true, false, not, ◌||◌, Some, None, refl, arith, subst, sym, inl, inr, cond, count_by, nat_lt, ◌⊎◌, ◌∙◌, ap}
 use Rattle.std.specs.Prelude.{All, remove}
 use Rattle.std.specs.List.{list_any}
 use Rattle.std.proofs.lemmas.Bool.{cases_Bool, or_parts, or_from, or_left, or_right, cond-true, cond-false, both_ways, not_from_true, not_from_false, cases_lt, lt-ltb, le-ltb, true_from_ne_false}
@@ -240,7 +240,11 @@ filter_none p (x ∷ xs) count = elim (cases_Bool (p x)) [
   | inl here ↦ absurd (omega (arith, count_yes p x xs here))
   | inr past ↦
       (let rest = filter_none p xs (omega (arith, count_no p x xs past))
-      in (filter_no p x xs past ∙ rest.0, filter_yes (λ y. not (p y)) x xs (not_from_false (p x) past) ∙ ap (λ l. x ∷ l) rest.1))
+      in (
+        filter_no p x xs past ∙ rest.0,
+        filter_yes (λ y. not (p y)) x xs (not_from_false (p x) past)
+            ∙ ap (λ l. x ∷ l) rest.1,
+      ))
 ]
 
 -- where one alone passes, the test keeps it, and the opposite test keeps the list without it
@@ -260,7 +264,11 @@ filter_one p (y ∷ ys) (suc i) x at passes once = elim (cases_Bool (p y)) [
   | inl here ↦ absurd (omega (arith, count_yes p y ys here, counted_here p ys i x at passes))
   | inr past ↦
       (let rest = filter_one p ys i x at passes (omega (arith, count_no p y ys past))
-      in (filter_no p y ys past ∙ rest.0, filter_yes (λ z. not (p z)) y ys (not_from_false (p y) past) ∙ ap (λ l. y ∷ l) rest.1))
+      in (
+        filter_no p y ys past ∙ rest.0,
+        filter_yes (λ z. not (p z)) y ys (not_from_false (p y) past)
+            ∙ ap (λ l. y ∷ l) rest.1,
+      ))
 ]
 
 -- what a filter keeps stands in the list, and passes

@@ -25,7 +25,8 @@ numeral_some n above = grind (arith, nat_tests)
 -- as std prints a number
 pub numeral_is_decimal : (n : ℕ) → n < 2 ^ 64 → numeral n ≡ decimal n
 numeral_is_decimal zero small = numeral_none ∙ sym (decimal_digit 0 (omega arith))
-numeral_is_decimal (suc n) small = numeral_some (suc n) (omega arith) ∙ sym (decimal-digits_of (suc n) (omega arith) small)
+numeral_is_decimal (suc n) small = numeral_some (suc n) (omega arith)
+    ∙ sym (decimal-digits_of (suc n) (omega arith) small)
 
 -- a number below ten
 pub numeral_digit : (d : ℕ) → d < 10 → numeral d ≡ (48 + d) ∷ []
@@ -47,7 +48,8 @@ numeral_more n d above small =
 -- an amount as std prints it
 pub signed_is_decimal : (z : ℤ) → neg_ℤ (pos (2 ^ 63)) ≤ℤ z → z <ℤ pos (2 ^ 63) → signed_numeral z ≡ signed_decimal z
 signed_is_decimal (pos n) low high = numeral_is_decimal n (omega (arith, ints))
-signed_is_decimal (negsuc n) low high = ap (λ m. 45 ∷ numeral m) (add-one n) ∙ ap (λ l. 45 ∷ l) (numeral_is_decimal (suc n) (omega (arith, ints)))
+signed_is_decimal (negsuc n) low high = ap (λ m. 45 ∷ numeral m) (add-one n)
+    ∙ ap (λ l. 45 ∷ l) (numeral_is_decimal (suc n) (omega (arith, ints)))
 
 -- the number that such a word stands for
 number_back : List ℕ → ℕ
@@ -55,7 +57,8 @@ number_back word = number_from_digits 10 (map (λ b. b - 48) word)
 
 digits_back : (ds : List ℕ) → map (λ b. b - 48) (map (λ d. 48 + d) ds) ≡ ds
 digits_back [] = refl
-digits_back (d ∷ ds) = let first : (48 + d) - 48 ≡ d = omega arith in ap (λ x. x ∷ map (λ b. b - 48) (map (λ e. 48 + e) ds)) first ∙ ap (λ l. d ∷ l) (digits_back ds)
+digits_back (d ∷ ds) = let first : (48 + d) - 48 ≡ d = omega arith in
+    ap (λ x. x ∷ map (λ b. b - 48) (map (λ e. 48 + e) ds)) first ∙ ap (λ l. d ∷ l) (digits_back ds)
 
 number_of_numeral : (n : ℕ) → number_back (numeral n) ≡ n
 unfolding number_back
@@ -76,7 +79,8 @@ all_digits (d ∷ ds) below = let first = below.0 in let rest = all_digits ds be
 -- each byte of the word is a digit
 pub numeral_digits : (n : ℕ) → list_all is_ascii_digit (numeral n) ≡ true
 numeral_digits zero = ap (list_all is_ascii_digit) numeral_none
-numeral_digits (suc n) = ap (list_all is_ascii_digit) (numeral_some (suc n) (omega arith)) ∙ all_digits (digits_of 10 (suc n)) (all_below_base_digits_of 10 (suc n) (omega arith))
+numeral_digits (suc n) = ap (list_all is_ascii_digit) (numeral_some (suc n) (omega arith))
+    ∙ all_digits (digits_of 10 (suc n)) (all_below_base_digits_of 10 (suc n) (omega arith))
 
 -- the first digit of a number's word: a zero only of 0 itself
 pub record Front (n : ℕ) : Type 0 where
@@ -87,7 +91,8 @@ pub record Front (n : ℕ) : Type 0 where
   pub lone : first ≡ 48 → n ≡ 0
 
 front_of : (n : ℕ) (ds : List ℕ) → digits_of 10 n ≡ ds → 0 < n → Front n
-front_of n [] is some = let none : 0 ≡ n = sym (ap (number_from_digits 10) is) ∙ number_digits_of 10 n (omega arith) in absurd (omega arith)
+front_of n [] is some = let none : 0 ≡ n = sym (ap (number_from_digits 10) is) ∙ number_digits_of 10 n (omega arith) in
+    absurd (omega arith)
 front_of n (d ∷ ds) is some =
     let high : 0 < d = rw (ap (λ l. get_or l 0 0) is) at (first_digits_of 10 n (omega arith) some) in
     let below : AllByRecursion (λ x. x < 10) (d ∷ ds) = rw is at (all_below_base_digits_of 10 n (omega arith)) in

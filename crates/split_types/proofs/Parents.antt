@@ -70,14 +70,17 @@ slot_of slot = Inode (record { 0 = slot })
 
 metadata_any : (test : Buf → Bool) → list_any test metadata_buffers ≡ true → (b : Buf) × IsMetadata b × (test b ≡ true)
 unfolding metadata_buffers slot_of
-metadata_any test any = elim (or_cases (test Bitmap) (list_any test (map Dir (range_with_len 0 4) ++ map slot_of (range_with_len 0 256))) any) [
-  | inl here ↦ (Bitmap, tt, here)
-  | inr later ↦ elim (or_cases (list_any test (map Dir (range_with_len 0 4))) (list_any test (map slot_of (range_with_len 0 256)))
-      (sym (list_any-append test (map Dir (range_with_len 0 4)) (map slot_of (range_with_len 0 256))) ∙ later)) [
-        | inl dir ↦ (let k = range_any test Dir 0 4 dir in (Dir k.0, omega (arith, k.1.1), k.2))
-        | inr inode ↦ (let k = range_any test slot_of 0 256 inode in (slot_of k.0, omega (arith, k.1.1), k.2))
-      ]
-]
+metadata_any test any =
+    elim (or_cases (test Bitmap) (list_any test (map Dir (range_with_len 0 4) ++ map slot_of (range_with_len 0 256)))
+    any) [
+      | inl here ↦ (Bitmap, tt, here)
+      | inr later ↦ elim (or_cases (list_any test (map Dir (range_with_len 0 4)))
+          (list_any test (map slot_of (range_with_len 0 256)))
+          (sym (list_any-append test (map Dir (range_with_len 0 4)) (map slot_of (range_with_len 0 256))) ∙ later)) [
+            | inl dir ↦ (let k = range_any test Dir 0 4 dir in (Dir k.0, omega (arith, k.1.1), k.2))
+            | inr inode ↦ (let k = range_any test slot_of 0 256 inode in (slot_of k.0, omega (arith, k.1.1), k.2))
+          ]
+    ]
 
 any_metadata : (test : Buf → Bool) (b : Buf) → IsMetadata b → test b ≡ true → list_any test metadata_buffers ≡ true
 unfolding metadata_buffers slot_of
@@ -88,11 +91,13 @@ any_metadata test Bitmap is passes =
 any_metadata test (Dir k) is passes =
     or_right (test Bitmap) (list_any test (map Dir (range_with_len 0 4) ++ map slot_of (range_with_len 0 256)))
     (list_any-append test (map Dir (range_with_len 0 4)) (map slot_of (range_with_len 0 256))
-    ∙ or_left (list_any test (map Dir (range_with_len 0 4))) (list_any test (map slot_of (range_with_len 0 256))) (any_range test Dir 0 4 k (omega arith) (omega arith) passes))
+    ∙ or_left (list_any test (map Dir (range_with_len 0 4))) (list_any test (map slot_of (range_with_len 0 256)))
+    (any_range test Dir 0 4 k (omega arith) (omega arith) passes))
 any_metadata test (Inode slot) is passes =
     or_right (test Bitmap) (list_any test (map Dir (range_with_len 0 4) ++ map slot_of (range_with_len 0 256)))
     (list_any-append test (map Dir (range_with_len 0 4)) (map slot_of (range_with_len 0 256))
-    ∙ or_right (list_any test (map Dir (range_with_len 0 4))) (list_any test (map slot_of (range_with_len 0 256))) (any_range test slot_of 0 256 slot.0 (omega arith) (omega arith) passes))
+    ∙ or_right (list_any test (map Dir (range_with_len 0 4))) (list_any test (map slot_of (range_with_len 0 256)))
+    (any_range test slot_of 0 256 slot.0 (omega arith) (omega arith) passes))
 
 metadata_open : (h : List Event) (j : ℕ) → has (flat_map (open_at h) metadata_buffers) j ≡ true → IsOpenMetadata h j
 metadata_open h j is =

@@ -384,7 +384,8 @@ in_passes test h t is r = as_seal r.in_round.event r.in_round.there r.in_round.s
               seal_is_no_clear d
               (seal_of_seals t d
               (subst (λ x. is_seal_of t x ≡ true)
-              (same_Some in'.own_seal.event d (sym in'.own_seal.there ∙ ap (event_at h) (sym same) ∙ at)) in'.own_seal.passes))
+              (same_Some in'.own_seal.event d (sym in'.own_seal.there ∙ ap (event_at h) (sym same) ∙ at))
+              in'.own_seal.passes))
           | inr (inl below) ↦ in'.no_clear k d (inr (above, below)) at
           | inr (inr past) ↦ p.2 k d (omega arith) at
         ]
@@ -398,7 +399,15 @@ in_passes test h t is r = as_seal r.in_round.event r.in_round.there r.in_round.s
 
     as_seal : (e : Event) → event_at h r.place ≡ Some e → is_seal e ≡ true → Passes (λ u g. test g) h
     as_seal (Seal u k) at seals =
-        record { place = r.place; txn = u; k = k; since = record { event = Seal u k; there = at; seals = refl; no_clear = no_clear }; there = at; passes = r.passes }
+        record {
+          place = r.place;
+          txn = u;
+          k = k;
+          since =
+              record { event = Seal u k; there = at; seals = refl; no_clear = no_clear };
+          there = at;
+          passes = r.passes;
+        }
     as_seal e at seals = absurd (cc)
 
 in_before : (test : List Event → Bool) (h : List Event) (e : Event) (t : Txn) → is_open (h ▹ e) t ≡ false

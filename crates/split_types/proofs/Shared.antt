@@ -25,6 +25,5 @@ pub use Rattle.split_types.proofs.BillLaws.{parts_are_tags, bill_is, costs_are_b
 pub use Rattle.split_types.proofs.BoundLaws.{work, few_events, stays_below}
 pub use Rattle.split_types.proofs.StuckLaws.{never_stuck}
 pub use Rattle.split_types.proofs.DrainLaws.{next_legal, turn_legal, turn_none, play_legal, drains_whole}
-pub use Rattle.split_types.proofs.Adds.{and_then, in_all}
-pub use Rattle.split_types.proofs.Lines.{lines_of_append, adds_more, adds_item, adds_numbered, adds_field, fields_append, fields_then, whole_line}
+pub use Rattle.split_types.proofs.Lines.{lines_of_append}
 pub use Rattle.split_types.proofs.Numerals.{numeral_is_decimal, signed_is_decimal, numeral_digit, numeral_more, numeral_injective, numeral_digits, Front, front}

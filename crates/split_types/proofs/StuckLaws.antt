@@ -98,7 +98,8 @@ call_left w h p c accepted f at over none =
 
     some_file : (o : Option Serial) → o ≡ Some (record { 0 = over.serial })
         → ◌≡◌ {A = Option Event}
-        (elim o [ None ↦ None | Some s ↦ Some (next_of_write (client_state w h by) s over.off over.len over.fill) ]) None
+        (elim o [ None ↦ None | Some s ↦ Some (next_of_write (client_state w h by) s over.off over.len over.fill) ])
+        None
         → ⊥
     some_file None is none = absurd (cc)
     some_file (Some s) is none = absurd (cc)
@@ -157,7 +158,9 @@ none_ready w h none = go (served_run (service h)) none
       | inl any ↦
           (let first = find_some (is_ready w h) (all_pages w) any
           in let page = page_is w first.place first.element first.there
-          in absurd (serve_left w h first.element page.serial page.page page.is (subst (λ o. ◌≡◌ {A = Option Event} (elim o [ None ↦ None | Some b ↦ serve_from w h b ]) None) first.found idle)))
+          in absurd (serve_left w h first.element page.serial page.page page.is
+          (subst (λ o. ◌≡◌ {A = Option Event} (elim o [ None ↦ None | Some b ↦ serve_from w h b ]) None) first.found
+          idle)))
     ]
 
     go : (o : Option Run)

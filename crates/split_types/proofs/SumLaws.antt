@@ -94,10 +94,12 @@ sum_of f cs p = sum_by f (map (λ c. c.1) (filter (is_call_of p) cs))
 
 sum_of_more : (f : Call → ℕ) (c : Pid × Call) (cs : List (Pid × Call)) (p : ℕ)
     → sum_of f (c ∷ cs) p ≡ cond (c.0.0 == p) (f c.1) 0 + sum_of f cs p
-sum_of_more f c cs p = elim (c.0.0 == p) as (λ b. sum_by f (map (λ d. d.1) (cond b (c ∷ filter (is_call_of p) cs) (filter (is_call_of p) cs))) ≡ cond b (f c.1) 0 + sum_of f cs p) [
-  | true ↦ sum_by-cons f c.1 (map (λ d. d.1) (filter (is_call_of p) cs))
-  | false ↦ omega arith
-]
+sum_of_more f c cs p = elim (c.0.0 == p) as (λ b. sum_by f
+    (map (λ d. d.1) (cond b (c ∷ filter (is_call_of p) cs) (filter (is_call_of p) cs)))
+    ≡ cond b (f c.1) 0 + sum_of f cs p) [
+      | true ↦ sum_by-cons f c.1 (map (λ d. d.1) (filter (is_call_of p) cs))
+      | false ↦ omega arith
+    ]
 
 -- the sums over the calls of each process are at most the sum over all calls
 pub sum_of_each : (f : Call → ℕ) (cs : List (Pid × Call)) (lo m : ℕ)

@@ -99,10 +99,11 @@ opens_blame w h s g n i accepted legal is = any_blames g n (sym (has-flat_map (o
   where
     any_blames : (g n : ℕ) → list_any (λ b. has (open_at h b) i) (pages_of s g n) ≡ true → BlamesOne w h i
     any_blames g zero is = absurd (cc)
-    any_blames g (suc n) is = elim (or_cases (has (open_at h (Page s g)) i) (list_any (λ b. has (open_at h b) i) (pages_of s (g + 1) n)) is) [
-      | inl here ↦ open_blames w h s g i accepted legal here
-      | inr later ↦ any_blames (g + 1) n later
-    ]
+    any_blames g (suc n) is = elim (or_cases (has (open_at h (Page s g)) i)
+        (list_any (λ b. has (open_at h b) i) (pages_of s (g + 1) n)) is) [
+          | inl here ↦ open_blames w h s g i accepted legal here
+          | inr later ↦ any_blames (g + 1) n later
+        ]
 
 -- a page that is dirty has an open dirtying
 first_of : (places : List ℕ) → nat_lt 0 (length places) ≡ true → (i : ℕ) × (has places i ≡ true)
@@ -202,19 +203,22 @@ tags_are_payers w (h ▹ e) id accepted legal below = tags_are_payers w h id acc
 
 -- ---- the causes of a dirty page
 pub dirty_have_causes : DirtyHaveCauses
-dirty_have_causes w h s g accepted legal = dirty_are_open w h s g accepted legal ∙ elim (cases_lt 0 (length (open_at h (Page s g)))) [
-  | inl some ↦
-      (let at = first_of (open_at h (Page s g)) (lt-ltb 0 (length (open_at h (Page s g))) some)
-      in let one = open_blames w h s g at.0 accepted legal at.1
-      in let blamed : has (blame h at.0) one.by ≡ true = ap (λ set. has set one.by) one.blamed ∙ one_has one.by
-      in let among = list_any-map_at (λ set. has set one.by) (blame h) (open_at h (Page s g)) at.0 at.1 blamed
-      in let most = procs_most w accepted
-      in let pid : has pids one.by ≡ true = has-pids one.by ∙ grind (arith, nat_tests, one.least, one.most, most)
-      in let in_set : has (causes_of h (Page s g)) one.by ≡ true =
-      ap (λ l. has l one.by) (causes-one h (Page s g)) ∙ has-union_of (map (blame h) (open_at h (Page s g))) one.by
-      ∙ and_from _ _ pid among
-      in lt-ltb 0 (length (open_at h (Page s g))) some ∙ sym (lt-ltb 0 (length (causes_of h (Page s g))) (length_some (causes_of h (Page s g)) one.by in_set)))
-  | inr none ↦
-      (let empty : open_at h (Page s g) ≡ [] = nil_from_length (open_at h (Page s g)) (omega arith)
-      in ap (λ l. nat_lt 0 (length l)) empty ∙ sym (ap (λ l. nat_lt 0 (length l)) (causes-one h (Page s g) ∙ ap (λ l. union_of (map (blame h) l)) empty ∙ union-none)))
-]
+dirty_have_causes w h s g accepted legal = dirty_are_open w h s g accepted legal
+    ∙ elim (cases_lt 0 (length (open_at h (Page s g)))) [
+      | inl some ↦
+          (let at = first_of (open_at h (Page s g)) (lt-ltb 0 (length (open_at h (Page s g))) some)
+          in let one = open_blames w h s g at.0 accepted legal at.1
+          in let blamed : has (blame h at.0) one.by ≡ true = ap (λ set. has set one.by) one.blamed ∙ one_has one.by
+          in let among = list_any-map_at (λ set. has set one.by) (blame h) (open_at h (Page s g)) at.0 at.1 blamed
+          in let most = procs_most w accepted
+          in let pid : has pids one.by ≡ true = has-pids one.by ∙ grind (arith, nat_tests, one.least, one.most, most)
+          in let in_set : has (causes_of h (Page s g)) one.by ≡ true =
+          ap (λ l. has l one.by) (causes-one h (Page s g)) ∙ has-union_of (map (blame h) (open_at h (Page s g))) one.by
+          ∙ and_from _ _ pid among
+          in lt-ltb 0 (length (open_at h (Page s g))) some
+          ∙ sym (lt-ltb 0 (length (causes_of h (Page s g))) (length_some (causes_of h (Page s g)) one.by in_set)))
+      | inr none ↦
+          (let empty : open_at h (Page s g) ≡ [] = nil_from_length (open_at h (Page s g)) (omega arith)
+          in ap (λ l. nat_lt 0 (length l)) empty ∙ sym (ap (λ l. nat_lt 0 (length l)) (causes-one h (Page s g)
+          ∙ ap (λ l. union_of (map (blame h) l)) empty ∙ union-none)))
+    ]

@@ -213,7 +213,8 @@ work_kept w h e p parts (came_put q name off len fill serial writing more) k =
         (λ x. (min 4096 ((off + moved h x) % 4096 + (len - moved h x)) - (off + moved h x) % 4096 ≡ 4096)
         × ((c : Call) → slice_get (calls_of w p) (returned h p) ≡ Some c → put_now h p + 1 ≤ span c))
         (sym same)
-        (piece_facts w h p name off len fill parts k (subst (λ x. slice_get (calls_of w x) (returned h x) ≡ Some (Write name off len fill)) same writing.has.call)
+        (piece_facts w h p name off len fill parts k (subst (λ x. slice_get (calls_of w x) (returned h x)
+        ≡ Some (Write name off len fill)) same writing.has.call)
         (subst (λ x. is_entered h x ≡ true) same writing.entered) (subst (λ x. moved h x < len) same more))
 work_kept w h e p parts (came_ret q name off len fill serial writing done) k =
     by_ret (calls_of w p) (acts h p) (returned h p) (puts h p) (put_now h p) (moved h p) (is_entered h p)

@@ -20,7 +20,8 @@ use Rattle.split_types.specs.CostAndClock.{cost_of}
 abbrev pub sealed : List Event → Txn → List Buf
 sealed h t = filter (λ b. nat_lt 0 (length (open_at (before_seal h t) b))) metadata_buffers
 
--- the sets of processes that bear a request added after h, one for each of its blocks: for pages those to blame for each
+-- the sets of processes that bear a request added after h, one for each of its blocks: for pages those to blame for
+-- each
 -- page, for a log all of its tag for the first block, and then those to blame for each buffer that was sealed
 abbrev pub parts_of_add : List Event → Request → List ℕ → List (List ℕ)
 parts_of_add h r all = by_kind r.kind where

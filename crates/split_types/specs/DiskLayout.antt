@@ -1,6 +1,6 @@
 -- How the metadata lies on the disk: the one spelling of each block, its 4,096 bytes. Numbers take four bytes, the
 -- lowest first, and bytes that are not named are 0.
-use Rattle.std.specs.Prelude.{◌≡◌, ℕ, zero, suc, ◌+◌, ◌-◌, ◌*◌, ◌^◌, ◌<◌, ◌≤◌, ◌⊎◌, List, ◌∷◌, ◌++◌, length, map, replicate, codes, slice_index, slice_index_or, Bool, true, false, if◌then◌else◌, IsTrue, All}
+use Rattle.std.specs.Prelude.{◌≡◌, ℕ, zero, suc, ◌+◌, ◌-◌, ◌*◌, ◌^◌, ◌<◌, ◌≤◌, ◌⊎◌, List, ◌∷◌, ◌++◌, length, map, replicate, codes, slice_index_or, Bool, true, false, if◌then◌else◌, IsTrue, All}
 use Rattle.std.specs.List.{flat_map, range_with_len}
 use Rattle.std.specs.List.Sorted.{IsStrictlyIncreasing}
 use Rattle.std.specs.Int.{w32, to_le_bytes}
@@ -91,7 +91,8 @@ pub record IsInode (device : ℕ) (serial : Serial) (size : ℕ) (blocks : List 
 
 -- a descriptor: SPLITJD1, the transaction, the number of home blocks, the home blocks
 unfoldable pub descriptor_block : ℕ → List ℕ → List ℕ
-descriptor_block t homes = codes "SPLITJD1" ++ number t ++ number (length homes) ++ numbers homes ++ zeros (4080 - 4 * length homes)
+descriptor_block t homes = codes "SPLITJD1" ++ number t ++ number (length homes) ++ numbers homes
+    ++ zeros (4080 - 4 * length homes)
 
 -- a transaction and its home blocks: 1 to 261 of blocks 1 to 261, rising
 pub record IsDescriptor (t : ℕ) (homes : List ℕ) : Type 0 where

@@ -80,7 +80,8 @@ event_fields (event.Drop by slot serial) = numerals (slot.0 ∷ serial.0 ∷ [])
 event_fields (event.Flushed by) = []
 event_fields (event.Ret by reply) = reply_words reply
 event_fields (event.Serve serial page n) = numerals (serial.0 ∷ page ∷ n ∷ [])
-event_fields (event.Map slot serial page n block new size) = numerals (slot.0 ∷ serial.0 ∷ page ∷ n ∷ block ∷ flag new ∷ size ∷ [])
+event_fields (event.Map slot serial page n block new size) =
+    numerals (slot.0 ∷ serial.0 ∷ page ∷ n ∷ block ∷ flag new ∷ size ∷ [])
 event_fields event.Skip = []
 event_fields (event.Seal t k) = numerals (t.0 ∷ k ∷ [])
 event_fields (event.Add by r) = request_words r

@@ -31,7 +31,13 @@ shares_of cost sets tag = map (λ p. (record { 0 = p }, bill_of_parts cost sets 
 abbrev pub request_fact : Workload → List Event → Request → ReqFact
 request_fact w h r =
     let shown = if is_queued (state_of h r.id.0) then 0 else cost_of h r.id.0 in
-    record { req = r; state = state_of h r.id.0; cost = shown; shares = shares_of shown (parts w h r.id.0) (tag h r.id.0) }
+    record {
+      req = r;
+      state = state_of h r.id.0;
+      cost = shown;
+      shares =
+          shares_of shown (parts w h r.id.0) (tag h r.id.0);
+    }
 
 -- the event is made by the same actor; completions count together
 abbrev pub is_by : Actor → Event → Bool

@@ -14,7 +14,6 @@ pub mod Workloads
 pub mod IsWorkload
 pub mod Accepted
 pub mod Lines
-pub mod Adds
 pub mod WorkloadText
 pub mod EventText
 pub mod TraceText

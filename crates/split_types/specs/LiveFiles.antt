@@ -1,5 +1,5 @@
 -- The live files, one place for each of 256 slots, and the blocks of metadata that they give.
-use Rattle.std.specs.Prelude.{ℕ, ◌+◌, ◌-◌, ◌*◌, ◌==◌, List, [], ◌∷◌, ◌++◌, length, map, take, drop, replicate, max, position, slice_index_or, Bool, false, ◌||◌, nat_lt, Option, Some, None, is_none, sum_by}
+use Rattle.std.specs.Prelude.{ℕ, ◌+◌, ◌-◌, ◌*◌, ◌==◌, List, [], ◌∷◌, ◌++◌, length, map, take, drop, replicate, max, position, slice_index_or, Bool, false, ◌||◌, nat_lt, Option, Some, None, is_none}
 use Rattle.std.specs.List.{flat_map, filter_map, list_any, range_with_len}
 use Rattle.std.specs.Str.{bytes_eq}
 use Rattle.split_types.specs.declared.ids.Serial.{Serial}

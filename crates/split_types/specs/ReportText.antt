@@ -23,7 +23,8 @@ share_word s = numeral s.0.0 ++ 58 ∷ numeral s.1
 
 abbrev pub request_words : ReqFact → List (List ℕ)
 request_words f =
-    codes "req" ∷ numeral f.req.id.0 ∷ kind_word f.req.kind ∷ numeral f.req.first ∷ numeral f.req.n ∷ state_word f.state ∷ numeral f.cost
+    codes "req" ∷ numeral f.req.id.0 ∷ kind_word f.req.kind ∷ numeral f.req.first ∷ numeral f.req.n ∷ state_word f.state
+    ∷ numeral f.cost
     ∷ map share_word f.shares
 
 -- a process, counted from 1, and what is billed to it
@@ -32,7 +33,8 @@ billed_words b = codes "proc" ∷ numeral b.0 ∷ codes "billed" ∷ numeral b.1
 
 abbrev pub account_words : ℕ × AccountFact → List (List ℕ)
 account_words a =
-    codes "account" ∷ numeral a.0 ∷ codes "granted" ∷ signed_numeral a.1.granted ∷ codes "billed" ∷ signed_numeral a.1.billed
+    codes "account" ∷ numeral a.0 ∷ codes "granted" ∷ signed_numeral a.1.granted ∷ codes "billed" ∷ signed_numeral
+    a.1.billed
     ∷ codes "pending" ∷ signed_numeral a.1.pending ∷ codes "balance" ∷ signed_numeral a.1.balance ∷ []
 
 -- accounts are shown under the scheduler `token` alone

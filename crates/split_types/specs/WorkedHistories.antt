@@ -26,10 +26,11 @@ abbrev pub dues : Workload → List Event → List Due
 dues w h = map (due_of w h) (range_with_len 0 (adds h))
 
 -- this is due for the requests of a history, is billed to each process, and is what the clock says
-pub record IsDue (w : Workload) (h : List Event) (of_requests : List Due) (to_processes : List ℕ) (clock : ℕ) : Type 0 where
-  pub requests : dues w h ≡ of_requests
-  pub processes : map (billed w h) (range_with_len 1 (length to_processes)) ≡ to_processes
-  pub time : now h ≡ clock
+pub record IsDue (w : Workload) (h : List Event) (of_requests : List Due) (to_processes : List ℕ) (clock : ℕ) : Type 0
+  where
+    pub requests : dues w h ≡ of_requests
+    pub processes : map (billed w h) (range_with_len 1 (length to_processes)) ≡ to_processes
+    pub time : now h ≡ clock
 
 abbrev pub both : List ℕ
 both = 1 ∷ 2 ∷ []

@@ -18,7 +18,6 @@ mod facts;
 mod hooks;
 mod ids;
 mod laws;
-mod line;
 mod list;
 mod name;
 mod request;
@@ -36,10 +35,6 @@ pub use laws::{
     bills_conserve, blame_is_set, blamed_are_blamed, dirty_are_open, dirty_have_causes,
     open_are_open, parents_are_older, parents_are_parents, parts_are_tags, running_causes,
     sends_show_costs, tag_is_blame, worked_histories,
-};
-pub use line::{
-    end_line, kind_word, put_actor, put_amount, put_digits, put_number, put_number_line, put_text,
-    put_word,
 };
 pub use list::{BlockList, BlockWrite, List, PlaceList, Text, WriteList};
 pub use name::Name;

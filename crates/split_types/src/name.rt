@@ -9,7 +9,7 @@ use std::marker::Model;
 #[derive(Clone, Copy, Debug)]
 pub struct Name {
     bytes: [u8; 32],
-    len: usize,
+    len: u8,
 }
 
 impl Model for Name {
@@ -69,7 +69,7 @@ impl Name {
         if is_name(bytes) {
             Some(Name {
                 bytes: padded_bytes(bytes),
-                len: bytes.len(),
+                len: bytes.len() as u8,
             })
         } else {
             None
@@ -82,13 +82,13 @@ impl Name {
         ensures most { result ≤ 32 }
         ensures named { IsTrue (is_name self.now) }
     {
-        self.len
+        usize::from(self.len)
     }
 
     /// The bytes of the name.
     pub fn as_slice(&self) -> &[u8]
         ensures { result.now ≡ self.now }
     {
-        &self.bytes[..self.len]
+        &self.bytes[..usize::from(self.len)]
     }
 }

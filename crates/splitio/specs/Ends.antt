@@ -24,13 +24,16 @@ spelled (Ok words) = Ok (map (λ word. word.bytes.items) words.items)
 spelled (Err s) = Err s
 
 -- the program ended with this status
-pub record EndedWith {S K : Type 0} (told : Told S K) (words : List (List ℕ)) (source_old source : S) (sink_old sink : K) (s : Status) (code : ℕ) : Type 0 where
+pub record EndedWith {S K : Type 0} (told : Told S K) (words : List (List ℕ)) (source_old source : S)
+    (sink_old sink : K) (s : Status) (code : ℕ) : Type 0 where
   pub code_is : code ≡ number_of s
   -- the top call did what its contract says, or there was no memory to pass the words on and nothing was touched
-  pub outcome : Outcome told words source_old source sink_old sink s ⊎ ((s ≡ status.OutOfMemory) × (source ≡ source_old) × (sink ≡ sink_old))
+  pub outcome : Outcome told words source_old source sink_old sink s ⊎ ((s ≡ status.OutOfMemory) × (source ≡ source_old)
+      × (sink ≡ sink_old))
 
 -- what the program did and its exit status, where it was given words or the status that says why there are none
 abbrev pub Ends : {S K : Type 0} → Told S K → Result (List (List ℕ)) Status → S → S → K → K → ℕ → Type 0
 Ends told (Ok words) source_old source sink_old sink code =
     (s : Status) × EndedWith told words source_old source sink_old sink s code
-Ends told (Err s) source_old source sink_old sink code = (code ≡ number_of s) × (source ≡ source_old) × (sink ≡ sink_old)
+Ends told (Err s) source_old source sink_old sink code = (code ≡ number_of s) × (source ≡ source_old)
+    × (sink ≡ sink_old)

@@ -41,7 +41,14 @@ fn answer<A: Allocator, S: Source, K: Sink>(
     source: &mut S,
     sink: &mut K,
 ) -> Status
-    ensures { Ends (record { left = S.left; read_faults = S.faults; held = K.held; write_faults = K.faults; room = K.room })
+    ensures { Ends (record {
+      left = S.left;
+      read_faults = S.faults;
+      held = K.held;
+      write_faults = K.faults;
+      room =
+          K.room;
+    })
         (Ok (map (λ word. word.bytes.items) words.now)) source.old source.new sink.old sink.new (number_of result) }
 {
     match lent(alloc, words) {
@@ -58,7 +65,14 @@ pub(crate) fn program<A: Allocator, S: Source, K: Sink>(
     source: &mut S,
     sink: &mut K,
 ) -> ExitCode
-    ensures { Ends (record { left = S.left; read_faults = S.faults; held = K.held; write_faults = K.faults; room = K.room })
+    ensures { Ends (record {
+      left = S.left;
+      read_faults = S.faults;
+      held = K.held;
+      write_faults = K.faults;
+      room =
+          K.room;
+    })
         (spelled words) source.old source.new sink.old sink.new (exit_status result) }
 {
     match words {

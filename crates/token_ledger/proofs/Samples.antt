@@ -54,7 +54,8 @@ sample_payers books p owners is =
     by_test true same is = grind (arith, nat_tests)
     by_test false same is = absurd (cc)
 
-pub sample_bill_fits : (books : Books) (a : ℕ) → BillsWithinCosts → IsSet (1 ∷ []) → books.accounts ≡ sample_account ∷ []
+pub sample_bill_fits : (books : Books) (a : ℕ) → BillsWithinCosts → IsSet (1 ∷ [])
+    → books.accounts ≡ sample_account ∷ []
     → books.billed ≡ 0 ∷ [] → HasAccount books a
     → billed_of books a + bill_of books.owners 52 ((1 ∷ []) ∷ []) a < 2 ^ 60
 sample_bill_fits books a law is accounts billed has =

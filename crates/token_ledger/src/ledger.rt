@@ -119,7 +119,8 @@ impl Ledger {
     pub fn open_pair(&mut self, b: Buf, p: Pid, estimate: u64) -> Result<(), AllocError>
         requires process { HasProcess self.old p.0 }
         requires room { pending_of self.old (owner_in self.old.owners p.0) + estimate < 2 ^ 60 }
-        ensures pair { OnOk result (IsOneMore self.old.pairs self.new.pairs (record { buf = b; by = p; estimate = estimate; mark = None })) }
+        ensures pair { OnOk result (IsOneMore self.old.pairs self.new.pairs
+            (record { buf = b; by = p; estimate = estimate; mark = None })) }
         ensures spare { OnOk result (self.old.spare ≤ self.new.spare + 1) }
         ensures rest { OnOk result (self.new ≡ record self.old { pairs = self.new.pairs; spare = self.new.spare }) }
         ensures err { OnErr result (self.new ≡ self.old) }

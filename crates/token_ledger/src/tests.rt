@@ -9,7 +9,15 @@ use std::test::Fail;
 
 /// An account of 990 units, and a process.
 fn one_account(alloc: Global) -> Result<Ledger, AllocError>
-    ensures { IfOk result (λ l. l ≡ record { accounts = record { rate = 10; cap = 1000; start = pos 990 } ∷ []; owners = 1 ∷ []; granted = pos 990 ∷ []; billed = 0 ∷ []; pairs = []; spare = l.spare }) }
+    ensures { IfOk result (λ l. l ≡ record {
+      accounts = record { rate = 10; cap = 1000; start = pos 990 } ∷ [];
+      owners =
+          1 ∷ [];
+      granted = pos 990 ∷ [];
+      billed = 0 ∷ [];
+      pairs = [];
+      spare = l.spare;
+    }) }
 {
     let mut accounts = List::new(alloc);
     accounts.push(Account {

@@ -56,9 +56,11 @@ all_of_them k xs is = first_of_them k xs (omega arith) ∙ take_whole xs k is
 kept : (p : ℕ → Bool) (ns : List ℕ) → list_all p ns ≡ true → map (λ n. if p n then n else 0) ns ≡ ns
 kept p [] fits = refl
 kept p (n ∷ ns) fits = kept_at (p n) refl fits (kept p ns) where
-  kept_at : (first : Bool) → p n ≡ first → (first && list_all p ns) ≡ true → (list_all p ns ≡ true → map (λ m. if p m then m else 0) ns ≡ ns)
+  kept_at : (first : Bool) → p n ≡ first → (first && list_all p ns) ≡ true
+      → (list_all p ns ≡ true → map (λ m. if p m then m else 0) ns ≡ ns)
       → (if p n then n else 0) ∷ map (λ m. if p m then m else 0) ns ≡ n ∷ ns
-  kept_at true is all others = ap (λ b. (if b then n else 0) ∷ map (λ m. if p m then m else 0) ns) is ∙ ap (λ l. n ∷ l) (others all)
+  kept_at true is all others = ap (λ b. (if b then n else 0) ∷ map (λ m. if p m then m else 0) ns) is
+      ∙ ap (λ l. n ∷ l) (others all)
   kept_at false is all others = absurd (false≢true all)
 
 both : (p q : Bool) → (p && q) ≡ true → (p ≡ true) × (q ≡ true)
@@ -67,20 +69,25 @@ both true false e = absurd (false≢true e)
 both false q e = absurd (false≢true e)
 
 -- numbers that were read and fit are in their ranges
-pub in_range : {count : ℕ} {has_wide : Bool} {x : LineNumbers} {n : Numbers} → Holds count has_wide x n → n.within ≡ true → AreInRange x.0 x.1
-in_range {count} {has_wide} {x} {n} h fits = let all = both (list_all is_small x.0) (list_all is_wide x.1) (sym h.within ∙ fits) in record { small = all.0; wide = all.1 }
+pub in_range : {count : ℕ} {has_wide : Bool} {x : LineNumbers} {n : Numbers} → Holds count has_wide x n
+    → n.within ≡ true → AreInRange x.0 x.1
+in_range {count} {has_wide} {x} {n} h fits = let all =
+    both (list_all is_small x.0) (list_all is_wide x.1) (sym h.within ∙ fits) in record { small = all.0; wide = all.1 }
 
 -- and else they aren't
-pub out_of_range : {count : ℕ} {has_wide : Bool} {x : LineNumbers} {n : Numbers} → Holds count has_wide x n → n.within ≡ false → AreInRange x.0 x.1 → ⊥
+pub out_of_range : {count : ℕ} {has_wide : Bool} {x : LineNumbers} {n : Numbers} → Holds count has_wide x n
+    → n.within ≡ false → AreInRange x.0 x.1 → ⊥
 out_of_range {count} {has_wide} {x} {n} h unfit range =
     false≢true (sym unfit ∙ h.within ∙ ap (λ b. b && list_all is_wide x.1) range.small ∙ range.wide)
 
 -- they are the numbers at the first places
-pub smalls_are : {count : ℕ} {has_wide : Bool} {x : LineNumbers} {n : Numbers} → Holds count has_wide x n → n.within ≡ true → count ≤ 7 → x.0 ≡ from 0 count n.small
+pub smalls_are : {count : ℕ} {has_wide : Bool} {x : LineNumbers} {n : Numbers} → Holds count has_wide x n
+    → n.within ≡ true → count ≤ 7 → x.0 ≡ from 0 count n.small
 smalls_are {count} {has_wide} {x} {n} h fits few =
     sym (first_of_them count n.small (omega (arith, h.places)) ∙ h.small ∙ kept is_small x.0 (in_range h fits).small)
 
-pub wides_are : {count : ℕ} {has_wide : Bool} {x : LineNumbers} {n : Numbers} → Holds count has_wide x n → n.within ≡ true → x.1 ≡ wide_of has_wide n
+pub wides_are : {count : ℕ} {has_wide : Bool} {x : LineNumbers} {n : Numbers} → Holds count has_wide x n
+    → n.within ≡ true → x.1 ≡ wide_of has_wide n
 wides_are {count} {has_wide} {x} {n} h fits = sym (h.wide ∙ kept is_wide x.1 (in_range h fits).wide)
 
 pub none_left : (ws : List ℕ) → length ws ≡ 0 → [] ≡ ws
@@ -88,7 +95,8 @@ none_left [] is = refl
 none_left (w ∷ ws) is = absurd (omega arith)
 
 -- the event of a client has these numbers
-pub client_smalls : (row : ClientRow) (by : Pid) (ns ws : List ℕ) → length ns ≡ client_count row → smalls (Shown (client_event row by ns ws)) ≡ ns
+pub client_smalls : (row : ClientRow) (by : Pid) (ns ws : List ℕ) → length ns ≡ client_count row
+    → smalls (Shown (client_event row by ns ws)) ≡ ns
 client_smalls client.Enter by ns ws is = all_of_them 1 ns is
 client_smalls client.Admit by ns ws is = all_of_them 0 ns is
 client_smalls client.Make by ns ws is = all_of_them 2 ns is
@@ -98,7 +106,8 @@ client_smalls client.Drop by ns ws is = all_of_them 2 ns is
 client_smalls client.Flushed by ns ws is = all_of_them 0 ns is
 client_smalls client.Evict by ns ws is = all_of_them 2 ns is
 
-pub client_wides : (row : ClientRow) (by : Pid) (ns ws : List ℕ) → length ws ≡ flag (client_is_wide row) → wides (Shown (client_event row by ns ws)) ≡ ws
+pub client_wides : (row : ClientRow) (by : Pid) (ns ws : List ℕ) → length ws ≡ flag (client_is_wide row)
+    → wides (Shown (client_event row by ns ws)) ≡ ws
 client_wides client.Get by ns ws is = all_of_them 1 ws is
 client_wides client.Enter by ns ws is = none_left ws is
 client_wides client.Admit by ns ws is = none_left ws is
@@ -129,7 +138,9 @@ client_few client.Flushed = omega arith
 client_few client.Evict = omega arith
 
 -- it takes them from the first places
-client_first : (row : ClientRow) (by : Pid) (n : Numbers) → client_event row by (from 0 (client_count row) n.small) (wide_of (client_is_wide row) n) ≡ client_event row by n.small (n.wide ∷ [])
+client_first : (row : ClientRow) (by : Pid) (n : Numbers)
+    → client_event row by (from 0 (client_count row) n.small) (wide_of (client_is_wide row) n)
+    ≡ client_event row by n.small (n.wide ∷ [])
 client_first client.Enter by n = refl
 client_first client.Admit by n = refl
 client_first client.Make by n = refl
@@ -143,23 +154,32 @@ client_first client.Evict by n = refl
 one_of : {most p : ℕ} → IsWithin 1 most p → IsActorOf most (actor.Client (record { 0 = p }))
 one_of in_it = record { least = in_it.0; most = in_it.1 }
 
-client_range : (row : ClientRow) (p most : ℕ) (x : LineNumbers) → HasCounts (client_count row) (client_is_wide row) x → IsInRange most (Shown (client_event row (record { 0 = p }) x.0 x.1))
+client_range : (row : ClientRow) (p most : ℕ) (x : LineNumbers) → HasCounts (client_count row) (client_is_wide row) x
+    → IsInRange most (Shown (client_event row (record { 0 = p }) x.0 x.1))
     → IsWithin 1 most p × AreInRange x.0 x.1
 client_range row p most x counts range =
     let by : Pid = record { 0 = p } in
-    let one : IsActorOf most (actor.Client by) = subst (IsActorOf most) (client_maker row by x.0 x.1) range.0 in
-    ((one.least, one.most), subst (λ ns. AreInRange ns x.1) (client_smalls row by x.0 x.1 counts.0) (subst (λ ws. AreInRange (smalls (Shown (client_event row by x.0 x.1))) ws) (client_wides row by x.0 x.1 counts.1) range.1))
+    let one : IsActorOf most (actor.Client by) = subst (IsActorOf most) (client_maker row by x.0 x.1) range.0 in (
+      (one.least, one.most),
+      subst (λ ns. AreInRange ns x.1) (client_smalls row by x.0 x.1 counts.0)
+          (subst (λ ws. AreInRange (smalls (Shown (client_event row by x.0 x.1))) ws)
+          (client_wides row by x.0 x.1 counts.1) range.1),
+    )
 
-pub client_none : (row : ClientRow) (p most : ℕ) (x : LineNumbers) → (IsWithin 1 most p → ⊥) → HasCounts (client_count row) (client_is_wide row) x
+pub client_none : (row : ClientRow) (p most : ℕ) (x : LineNumbers) → (IsWithin 1 most p → ⊥)
+    → HasCounts (client_count row) (client_is_wide row) x
     → IsInRange most (Shown (client_event row (record { 0 = p }) x.0 x.1)) → ⊥
 client_none row p most x never counts range = never (client_range row p most x counts range).0
 
-pub client_out : (row : ClientRow) (p most : ℕ) (x : LineNumbers) (n : Numbers) → HasCounts (client_count row) (client_is_wide row) x → Holds (client_count row) (client_is_wide row) x n
+pub client_out : (row : ClientRow) (p most : ℕ) (x : LineNumbers) (n : Numbers)
+    → HasCounts (client_count row) (client_is_wide row) x → Holds (client_count row) (client_is_wide row) x n
     → n.within ≡ false → IsInRange most (Shown (client_event row (record { 0 = p }) x.0 x.1)) → ⊥
 client_out row p most x n counts holds unfit range = out_of_range holds unfit (client_range row p most x counts range).1
 
-pub client_made : (row : ClientRow) (p q most : ℕ) (x : LineNumbers) (n : Numbers) → (q ≡ p) × IsWithin 1 most p → HasCounts (client_count row) (client_is_wide row) x → Holds (client_count row) (client_is_wide row) x n
-    → n.within ≡ true → Says most (Shown (client_event row (record { 0 = p }) x.0 x.1)) (Some (client_event row (record { 0 = q }) n.small (n.wide ∷ [])))
+pub client_made : (row : ClientRow) (p q most : ℕ) (x : LineNumbers) (n : Numbers) → (q ≡ p) × IsWithin 1 most p
+    → HasCounts (client_count row) (client_is_wide row) x → Holds (client_count row) (client_is_wide row) x n
+    → n.within ≡ true → Says most (Shown (client_event row (record { 0 = p }) x.0 x.1))
+    (Some (client_event row (record { 0 = q }) n.small (n.wide ∷ [])))
 client_made row p q most x n in_it counts holds fits =
     let by : Pid = record { 0 = p } in
     let them = ap (λ ns. Shown (client_event row by ns x.1)) (smalls_are holds fits (client_few row))
@@ -168,7 +188,8 @@ client_made row p q most x n in_it counts holds fits =
       them ∙ ap (λ k. Shown (client_event row (record { 0 = k }) n.small (n.wide ∷ []))) (sym in_it.0),
       (
         subst (IsActorOf most) (sym (client_maker row by x.0 x.1)) (one_of in_it.1),
-        subst (λ ns. AreInRange ns (wides (Shown (client_event row by x.0 x.1)))) (sym (client_smalls row by x.0 x.1 counts.0))
+        subst (λ ns. AreInRange ns (wides (Shown (client_event row by x.0 x.1))))
+            (sym (client_smalls row by x.0 x.1 counts.0))
             (subst (AreInRange x.0) (sym (client_wides row by x.0 x.1 counts.1)) (in_range holds fits)),
       ),
     )

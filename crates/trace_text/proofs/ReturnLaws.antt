@@ -34,7 +34,8 @@ answer_row (reply.NoSpace n) = answer.NoSpace
 answer_row reply.Stopped = answer.Stopped
 answer_row reply.ReadFault = answer.ReadFault
 
-answer_text : (r : Reply) (rest : List ℕ) → behind (reply_words r) rest ≡ reply_head (answer_row r) ++ behind (number_words (reply_smalls r, reply_wides r)) rest
+answer_text : (r : Reply) (rest : List ℕ) → behind (reply_words r) rest ≡ reply_head (answer_row r)
+    ++ behind (number_words (reply_smalls r, reply_wides r)) rest
 unfolding answer_row
 answer_text reply.Done rest = refl
 answer_text (reply.Count n sum) rest = refl
@@ -46,7 +47,10 @@ answer_text (reply.NoSpace n) rest = refl
 answer_text reply.Stopped rest = refl
 answer_text reply.ReadFault rest = refl
 
-answer_counts : (r : Reply) → HasCounts (reply_count (answer_row r)) (reply_is_wide (answer_row r)) (reply_smalls r, reply_wides r)
+answer_counts : (r : Reply) → HasCounts (reply_count (answer_row r)) (reply_is_wide (answer_row r)) (
+  reply_smalls r,
+  reply_wides r,
+)
 unfolding answer_row
 answer_counts reply.Done = (refl, refl)
 answer_counts (reply.Count n sum) = (refl, refl)
@@ -108,28 +112,37 @@ answers_alike : (a b : ReplyRow) (x y : List ℕ) → reply_head a ++ x ≡ repl
 answers_alike a b x y e = sym (answer_back a x) ∙ ap answer_at e ∙ answer_back b y
 
 -- a text that begins as no answer does
-pub reply_none : (text : List ℕ) → ((row : ReplyRow) (rest : List ℕ) → text ≢ reply_head row ++ rest) → (r : Reply) (rest : List ℕ) → text ≢ behind (reply_words r) (10 ∷ rest)
+pub reply_none : (text : List ℕ) → ((row : ReplyRow) (rest : List ℕ) → text ≢ reply_head row ++ rest)
+    → (r : Reply) (rest : List ℕ) → text ≢ behind (reply_words r) (10 ∷ rest)
 reply_none text none r rest e = none (answer_row r) _ (e ∙ answer_text r (10 ∷ rest))
 
 -- an answer whose numbers can't be read
-pub reply_unread : (row : ReplyRow) (text more : List ℕ) → text ≡ reply_head row ++ more → ((x : LineNumbers) (rest : List ℕ) → HasCounts (reply_count row) (reply_is_wide row) x → more ≢ behind (number_words x) (10 ∷ rest))
+pub reply_unread : (row : ReplyRow) (text more : List ℕ) → text ≡ reply_head row ++ more
+    → ((x : LineNumbers) (rest : List ℕ) → HasCounts (reply_count row) (reply_is_wide row) x
+    → more ≢ behind (number_words x) (10 ∷ rest))
     → (r : Reply) (rest : List ℕ) → text ≢ behind (reply_words r) (10 ∷ rest)
 reply_unread row text more is none r rest e =
     let whole = e ∙ answer_text r (10 ∷ rest) in
     let same = answers_alike (answer_row r) row _ more (sym whole ∙ is) in
-    none (reply_smalls r, reply_wides r) rest (subst (λ k. HasCounts (reply_count k) (reply_is_wide k) (reply_smalls r, reply_wides r)) same (answer_counts r))
-    (cancel (reply_head row) (sym is ∙ whole ∙ ap (λ k. reply_head k ++ behind (number_words (reply_smalls r, reply_wides r)) (10 ∷ rest)) same))
+    none (reply_smalls r, reply_wides r) rest (subst (λ k.
+    HasCounts (reply_count k) (reply_is_wide k) (reply_smalls r, reply_wides r)) same (answer_counts r))
+    (cancel (reply_head row) (sym is ∙ whole ∙ ap (λ k. reply_head k
+    ++ behind (number_words (reply_smalls r, reply_wides r)) (10 ∷ rest)) same))
 
 -- an answer that was read
-pub reply_text : (row : ReplyRow) (text more last : List ℕ) (x : LineNumbers) → text ≡ reply_head row ++ more → HasCounts (reply_count row) (reply_is_wide row) x → more ≡ behind (number_words x) (10 ∷ last)
+pub reply_text : (row : ReplyRow) (text more last : List ℕ) (x : LineNumbers) → text ≡ reply_head row ++ more
+    → HasCounts (reply_count row) (reply_is_wide row) x → more ≡ behind (number_words x) (10 ∷ last)
     → text ≡ behind (reply_words (reply_of row x.0 x.1)) (10 ∷ last)
 reply_text row text more last x is counts read =
     let r = reply_of row x.0 x.1 in
     is
     ∙ ap (λ m. reply_head row ++ m) read
-    ∙ ap (λ ns. reply_head row ++ behind (numerals (ns ++ x.1)) (10 ∷ last)) (sym (reply_smalls_are row x.0 x.1 counts.0))
-    ∙ ap (λ ws. reply_head row ++ behind (numerals (reply_smalls r ++ ws)) (10 ∷ last)) (sym (reply_wides_are row x.0 x.1 counts.1))
-    ∙ ap (λ k. reply_head k ++ behind (number_words (reply_smalls r, reply_wides r)) (10 ∷ last)) (sym (row_of_reply row x.0 x.1))
+    ∙ ap (λ ns. reply_head row ++ behind (numerals (ns ++ x.1)) (10 ∷ last))
+    (sym (reply_smalls_are row x.0 x.1 counts.0))
+    ∙ ap (λ ws. reply_head row ++ behind (numerals (reply_smalls r ++ ws)) (10 ∷ last))
+    (sym (reply_wides_are row x.0 x.1 counts.1))
+    ∙ ap (λ k. reply_head k ++ behind (number_words (reply_smalls r, reply_wides r)) (10 ∷ last))
+    (sym (row_of_reply row x.0 x.1))
     ∙ sym (answer_text r (10 ∷ last))
 
 -- a return, and a completion
@@ -151,18 +164,25 @@ return_of_line (Shown (event.Ret by answer)) at = record { by = by; answer = ans
 return_of_line (Shown (event.Add by r)) at = absurd (no_return r.kind at)
 return_of_line l at = absurd (cc)
 
-pub return_unread : (text : List ℕ) (adds : ℕ) → ((n : ℕ) (rest : List ℕ) → NumberAt text n rest → ⊥) → (l : EventLine) (rest : List ℕ) → IsFormed adds l → row_of l ≡ Returns → text ≢ tail l rest
-return_unread text adds none l rest formed at e = let p = number_here adds Returns l rest refl formed at e in none p.0 _ p.2
+pub return_unread : (text : List ℕ) (adds : ℕ) → ((n : ℕ) (rest : List ℕ) → NumberAt text n rest → ⊥)
+    → (l : EventLine) (rest : List ℕ) → IsFormed adds l → row_of l ≡ Returns → text ≢ tail l rest
+return_unread text adds none l rest formed at e = let p = number_here adds Returns l rest refl formed at e in
+    none p.0 _ p.2
 
-pub return_unfinished : (text more : List ℕ) (p adds : ℕ) → NumberAt text p more → ((r : Reply) (rest : List ℕ) → more ≢ behind (reply_words r) (10 ∷ rest))
+pub return_unfinished : (text more : List ℕ) (p adds : ℕ) → NumberAt text p more
+    → ((r : Reply) (rest : List ℕ) → more ≢ behind (reply_words r) (10 ∷ rest))
     → (l : EventLine) (rest : List ℕ) → IsFormed adds l → row_of l ≡ Returns → text ≢ tail l rest
 return_unfinished text more p adds read none l rest formed at e =
     let r = return_of_line l at in
-    none r.answer rest (after_number adds Returns l rest refl read formed at e ∙ ap (λ m. behind (last_words m) (10 ∷ rest)) r.line_is)
+    none r.answer rest (after_number adds Returns l rest refl read formed at e
+    ∙ ap (λ m. behind (last_words m) (10 ∷ rest)) r.line_is)
 
-pub return_read : (text more last : List ℕ) (p most adds : ℕ) (r : Reply) (found : Option Event) → NumberAt text p more → more ≡ behind (reply_words r) (10 ∷ last)
-    → Says most (Shown (event.Ret (record { 0 = p }) r)) found → (l : EventLine) × IsFormed adds l × (row_of l ≡ Returns) × (text ≡ tail l last) × Says most l found
-return_read text more last p most adds r found read is says = (Shown (event.Ret (record { 0 = p }) r), tt, refl, read.text_is ∙ ap (λ m. numeral p ++ m) is, says)
+pub return_read : (text more last : List ℕ) (p most adds : ℕ) (r : Reply) (found : Option Event) → NumberAt text p more
+    → more ≡ behind (reply_words r) (10 ∷ last)
+    → Says most (Shown (event.Ret (record { 0 = p }) r)) found
+    → (l : EventLine) × IsFormed adds l × (row_of l ≡ Returns) × (text ≡ tail l last) × Says most l found
+return_read text more last p most adds r found read is says =
+    (Shown (event.Ret (record { 0 = p }) r), tt, refl, read.text_is ∙ ap (λ m. numeral p ++ m) is, says)
 
 record IsCompletion (l : EventLine) : Type 0 where
   k : ℕ
@@ -183,27 +203,43 @@ completion_of_line (Shown (event.Done k id ok)) at = record { k = k; id = id; ok
 completion_of_line (Shown (event.Add by r)) at = absurd (no_completion r.kind at)
 completion_of_line l at = absurd (cc)
 
-pub done_unread : (text : List ℕ) (adds : ℕ) → ((n : ℕ) (rest : List ℕ) → NumberAt text n rest → ⊥) → (l : EventLine) (rest : List ℕ) → IsFormed adds l → row_of l ≡ Completes → text ≢ tail l rest
-done_unread text adds none l rest formed at e = let p = number_here adds Completes l rest refl formed at e in none p.0 _ p.2
+pub done_unread : (text : List ℕ) (adds : ℕ) → ((n : ℕ) (rest : List ℕ) → NumberAt text n rest → ⊥)
+    → (l : EventLine) (rest : List ℕ) → IsFormed adds l → row_of l ≡ Completes → text ≢ tail l rest
+done_unread text adds none l rest formed at e = let p = number_here adds Completes l rest refl formed at e in
+    none p.0 _ p.2
 
 -- what follows the place in flight that was read
-done_after : {text more : List ℕ} {p : ℕ} (adds : ℕ) (l : EventLine) (rest : List ℕ) → NumberAt text p more → IsFormed adds l → row_of l ≡ Completes → text ≡ tail l rest → (d : IsCompletion l)
+done_after : {text more : List ℕ} {p : ℕ} (adds : ℕ) (l : EventLine) (rest : List ℕ) → NumberAt text p more
+    → IsFormed adds l → row_of l ≡ Completes → text ≡ tail l rest → (d : IsCompletion l)
     → more ≡ 32 ∷ numeral d.id.0 ++ behind (outcome_words d.ok) (10 ∷ rest)
-done_after adds l rest read formed at e d = after_number adds Completes l rest refl read formed at e ∙ ap (λ m. behind (last_words m) (10 ∷ rest)) d.line_is
+done_after adds l rest read formed at e d = after_number adds Completes l rest refl read formed at e
+    ∙ ap (λ m. behind (last_words m) (10 ∷ rest)) d.line_is
 
-pub done_unnamed : (text more : List ℕ) (p adds : ℕ) → NumberAt text p more → ((n : ℕ) (rest : List ℕ) → FieldAt more n rest → ⊥)
+pub done_unnamed : (text more : List ℕ) (p adds : ℕ) → NumberAt text p more
+    → ((n : ℕ) (rest : List ℕ) → FieldAt more n rest → ⊥)
     → (l : EventLine) (rest : List ℕ) → IsFormed adds l → row_of l ≡ Completes → text ≢ tail l rest
 done_unnamed text more p adds read none l rest formed at e =
     let d = completion_of_line l at in
-    none d.id.0 (behind (outcome_words d.ok) (10 ∷ rest)) (record { text_is = done_after adds l rest read formed at e d; ends = refl })
+    none d.id.0 (behind (outcome_words d.ok) (10 ∷ rest))
+    (record { text_is = done_after adds l rest read formed at e d; ends = refl })
 
-pub done_unfinished : (text more last : List ℕ) (p n adds : ℕ) → NumberAt text p more → FieldAt more n last → ((ok : Bool) (rest : List ℕ) → last ≢ behind (outcome_words ok) (10 ∷ rest))
+pub done_unfinished : (text more last : List ℕ) (p n adds : ℕ) → NumberAt text p more → FieldAt more n last
+    → ((ok : Bool) (rest : List ℕ) → last ≢ behind (outcome_words ok) (10 ∷ rest))
     → (l : EventLine) (rest : List ℕ) → IsFormed adds l → row_of l ≡ Completes → text ≢ tail l rest
 done_unfinished text more last p n adds read named none l rest formed at e =
     let d = completion_of_line l at in
-    none d.ok rest (after_field d.id.0 (behind (outcome_words d.ok) (10 ∷ rest)) named (done_after adds l rest read formed at e d) refl)
+    none d.ok rest (after_field d.id.0 (behind (outcome_words d.ok) (10 ∷ rest)) named
+    (done_after adds l rest read formed at e d) refl)
 
-pub done_read : (text more last end : List ℕ) (i j most adds : ℕ) (ok : Bool) (found : Option Event) → NumberAt text i more → FieldAt more j last → last ≡ behind (outcome_words ok) (10 ∷ end)
-    → Says most (Shown (event.Done i (record { 0 = j }) ok)) found → (l : EventLine) × IsFormed adds l × (row_of l ≡ Completes) × (text ≡ tail l end) × Says most l found
-done_read text more last end i j most adds ok found read named is says =
-    (Shown (event.Done i (record { 0 = j }) ok), tt, refl, read.text_is ∙ ap (λ m. numeral i ++ m) (named.text_is ∙ ap (λ m. 32 ∷ numeral j ++ m) is), says)
+pub done_read : (text more last end : List ℕ) (i j most adds : ℕ) (ok : Bool) (found : Option Event)
+    → NumberAt text i more → FieldAt more j last → last ≡ behind (outcome_words ok) (10 ∷ end)
+    → Says most (Shown (event.Done i (record { 0 = j }) ok)) found
+    → (l : EventLine) × IsFormed adds l × (row_of l ≡ Completes) × (text ≡ tail l end) × Says most l found
+done_read text more last end i j most adds ok found read named is says = (
+  Shown (event.Done i (record { 0 = j }) ok),
+  tt,
+  refl,
+  read.text_is
+      ∙ ap (λ m. numeral i ++ m) (named.text_is ∙ ap (λ m. 32 ∷ numeral j ++ m) is),
+  says,
+)

@@ -33,10 +33,13 @@ pub record IsThreadLine (adds : ℕ) (row : ThreadRow) (ns ws : List ℕ) (l : E
 
 seventh : (ns : List ℕ) (new : ℕ) → length ns ≡ 7 → new ≡ get_or ns 5 0
     → get_or ns 0 0 ∷ get_or ns 1 0 ∷ get_or ns 2 0 ∷ get_or ns 3 0 ∷ get_or ns 4 0 ∷ new ∷ get_or ns 6 0 ∷ [] ≡ ns
-seventh ns new is same = ap (λ k. get_or ns 0 0 ∷ get_or ns 1 0 ∷ get_or ns 2 0 ∷ get_or ns 3 0 ∷ get_or ns 4 0 ∷ k ∷ get_or ns 6 0 ∷ []) same ∙ all_of_them 7 ns is
+seventh ns new is same = ap (λ k. get_or ns 0 0 ∷ get_or ns 1 0 ∷ get_or ns 2 0 ∷ get_or ns 3 0 ∷ get_or ns 4 0 ∷ k ∷
+    get_or ns 6 0 ∷ []) same ∙ all_of_them 7 ns is
 
-map_is_line : (adds : ℕ) (ns ws : List ℕ) (zero_is one_is : Bool) → (get_or ns 5 0 == 0) ≡ zero_is → (get_or ns 5 0 == 1) ≡ one_is → length ns ≡ 7 → length ws ≡ 0
-    → IsThreadLine adds thread.Map ns ws (if zero_is then map_event ns false else (if one_is then map_event ns true else odd_map ns (get_or ns 5 0)))
+map_is_line : (adds : ℕ) (ns ws : List ℕ) (zero_is one_is : Bool) → (get_or ns 5 0 == 0) ≡ zero_is
+    → (get_or ns 5 0 == 1) ≡ one_is → length ns ≡ 7 → length ws ≡ 0
+    → IsThreadLine adds thread.Map ns ws (if zero_is then map_event ns false
+    else (if one_is then map_event ns true else odd_map ns (get_or ns 5 0)))
 map_is_line adds ns ws true one_is zero_e one_e is none = record {
   formed = tt;
   row_is = refl;
@@ -68,7 +71,8 @@ map_is_line adds ns ws false false zero_e one_e is none = record {
   above n no_zero no_one = grind (arith, nat_tests)
 
 -- each row's
-pub thread_is_line : (adds : ℕ) (row : ThreadRow) (ns ws : List ℕ) → length ns ≡ thread_count row → length ws ≡ flag (thread_is_wide row) → IsThreadLine adds row ns ws (thread_line row ns ws)
+pub thread_is_line : (adds : ℕ) (row : ThreadRow) (ns ws : List ℕ) → length ns ≡ thread_count row
+    → length ws ≡ flag (thread_is_wide row) → IsThreadLine adds row ns ws (thread_line row ns ws)
 thread_is_line adds thread.Serve ns ws is wide = record {
   formed = tt;
   row_is = refl;
@@ -78,7 +82,8 @@ thread_is_line adds thread.Serve ns ws is wide = record {
   shows = λ most range. (refl, (tt, range));
   ranged = λ most range. range.1;
 }
-thread_is_line adds thread.Map ns ws is wide = map_is_line adds ns ws (get_or ns 5 0 == 0) (get_or ns 5 0 == 1) refl refl is wide
+thread_is_line adds thread.Map ns ws is wide = map_is_line adds ns ws (get_or ns 5 0 == 0) (get_or ns 5 0 == 1) refl
+    refl is wide
 thread_is_line adds thread.Skip ns ws is wide = record {
   formed = tt;
   row_is = refl;
@@ -124,7 +129,8 @@ thread_few thread.Seal = omega arith
 thread_few thread.Send = omega arith
 thread_few thread.Tick = omega arith
 
-thread_first : (row : ThreadRow) (n : Numbers) → thread_line row (from 0 (thread_count row) n.small) (wide_of (thread_is_wide row) n) ≡ thread_line row n.small (n.wide ∷ [])
+thread_first : (row : ThreadRow) (n : Numbers) → thread_line row (from 0 (thread_count row) n.small)
+    (wide_of (thread_is_wide row) n) ≡ thread_line row n.small (n.wide ∷ [])
 thread_first thread.Serve n = refl
 thread_first thread.Map n = refl
 thread_first thread.Skip n = refl
@@ -132,13 +138,16 @@ thread_first thread.Seal n = refl
 thread_first thread.Send n = refl
 thread_first thread.Tick n = refl
 
-pub thread_out : (row : ThreadRow) (most : ℕ) (x : LineNumbers) (n : Numbers) → HasCounts (thread_count row) (thread_is_wide row) x → Holds (thread_count row) (thread_is_wide row) x n
+pub thread_out : (row : ThreadRow) (most : ℕ) (x : LineNumbers) (n : Numbers)
+    → HasCounts (thread_count row) (thread_is_wide row) x → Holds (thread_count row) (thread_is_wide row) x n
     → n.within ≡ false → IsInRange most (thread_line row x.0 x.1) → ⊥
 thread_out row most x n counts holds unfit range =
     let is = thread_is_line 0 row x.0 x.1 counts.0 counts.1 in
-    out_of_range holds unfit (subst (AreInRange x.0) is.wides_is (subst (λ ns. AreInRange ns (wides (thread_line row x.0 x.1))) is.smalls_is (is.ranged most range)))
+    out_of_range holds unfit (subst (AreInRange x.0) is.wides_is
+    (subst (λ ns. AreInRange ns (wides (thread_line row x.0 x.1))) is.smalls_is (is.ranged most range)))
 
-pub thread_made : (row : ThreadRow) (most : ℕ) (x : LineNumbers) (n : Numbers) → HasCounts (thread_count row) (thread_is_wide row) x → Holds (thread_count row) (thread_is_wide row) x n
+pub thread_made : (row : ThreadRow) (most : ℕ) (x : LineNumbers) (n : Numbers)
+    → HasCounts (thread_count row) (thread_is_wide row) x → Holds (thread_count row) (thread_is_wide row) x n
     → n.within ≡ true → Says most (thread_line row x.0 x.1) (shown (thread_line row n.small (n.wide ∷ [])))
 thread_made row most x n counts holds fits =
     let is = thread_is_line 0 row x.0 x.1 counts.0 counts.1 in
@@ -146,9 +155,11 @@ thread_made row most x n counts holds fits =
     ∙ ap (λ ws. thread_line row (from 0 (thread_count row) n.small) ws) (wides_are holds fits)
     ∙ thread_first row n in
     subst (λ l. Says most (thread_line row x.0 x.1) (shown l)) them
-    (is.shows most (subst (λ ns. AreInRange ns (wides (thread_line row x.0 x.1))) (sym is.smalls_is) (subst (AreInRange x.0) (sym is.wides_is) (in_range holds fits))))
+    (is.shows most (subst (λ ns. AreInRange ns (wides (thread_line row x.0 x.1))) (sym is.smalls_is)
+    (subst (AreInRange x.0) (sym is.wides_is) (in_range holds fits))))
 
-pub request_smalls : (row : RequestRow) (adds : ℕ) (ns : List ℕ) → length ns ≡ request_count row → smalls (Shown (request_event row adds ns)) ≡ ns
+pub request_smalls : (row : RequestRow) (adds : ℕ) (ns : List ℕ) → length ns ≡ request_count row
+    → smalls (Shown (request_event row adds ns)) ≡ ns
 request_smalls asked.Pages adds ns is = all_of_them 4 ns is
 request_smalls asked.Log adds ns is = all_of_them 3 ns is
 request_smalls asked.Commit adds ns is = all_of_them 3 ns is
@@ -162,50 +173,66 @@ request_few asked.Commit = omega arith
 request_few asked.Home = omega arith
 request_few asked.Clear = omega arith
 
-request_first : (row : RequestRow) (adds : ℕ) (small : List ℕ) → request_event row adds (from 0 (request_count row) small) ≡ request_event row adds small
+request_first : (row : RequestRow) (adds : ℕ) (small : List ℕ)
+    → request_event row adds (from 0 (request_count row) small) ≡ request_event row adds small
 request_first asked.Pages adds small = refl
 request_first asked.Log adds small = refl
 request_first asked.Commit adds small = refl
 request_first asked.Home adds small = refl
 request_first asked.Clear adds small = refl
 
-request_actor : (row : RequestRow) (most adds : ℕ) (ns : List ℕ) → AreInRange (smalls (Shown (request_event row adds ns))) [] → IsInRange most (Shown (request_event row adds ns))
+request_actor : (row : RequestRow) (most adds : ℕ) (ns : List ℕ)
+    → AreInRange (smalls (Shown (request_event row adds ns))) [] → IsInRange most (Shown (request_event row adds ns))
 request_actor asked.Pages most adds ns range = (tt, range)
 request_actor asked.Log most adds ns range = (tt, range)
 request_actor asked.Commit most adds ns range = (tt, range)
 request_actor asked.Home most adds ns range = (tt, range)
 request_actor asked.Clear most adds ns range = (tt, range)
 
-pub request_out : (row : RequestRow) (most adds : ℕ) (x : LineNumbers) (n : Numbers) → HasCounts (request_count row) false x → Holds (request_count row) false x n
+pub request_out : (row : RequestRow) (most adds : ℕ) (x : LineNumbers) (n : Numbers)
+    → HasCounts (request_count row) false x → Holds (request_count row) false x n
     → n.within ≡ false → IsInRange most (Shown (request_event row adds x.0)) → ⊥
 request_out row most adds x n counts holds unfit range =
-    out_of_range holds unfit (subst (AreInRange x.0) (none_left x.1 counts.1) (subst (λ ns. AreInRange ns []) (request_smalls row adds x.0 counts.0) range.1))
+    out_of_range holds unfit (subst (AreInRange x.0) (none_left x.1 counts.1)
+    (subst (λ ns. AreInRange ns []) (request_smalls row adds x.0 counts.0) range.1))
 
-pub request_made : (row : RequestRow) (most adds : ℕ) (x : LineNumbers) (n : Numbers) → HasCounts (request_count row) false x → Holds (request_count row) false x n
+pub request_made : (row : RequestRow) (most adds : ℕ) (x : LineNumbers) (n : Numbers)
+    → HasCounts (request_count row) false x → Holds (request_count row) false x n
     → n.within ≡ true → Says most (Shown (request_event row adds x.0)) (Some (request_event row adds n.small))
 request_made row most adds x n counts holds fits = (
-  ap (λ ns. Shown (request_event row adds ns)) (smalls_are holds fits (request_few row)) ∙ ap (λ e. Shown e) (request_first row adds n.small),
-  request_actor row most adds x.0 (subst (λ ns. AreInRange ns []) (sym (request_smalls row adds x.0 counts.0)) (subst (AreInRange x.0) (sym (none_left x.1 counts.1)) (in_range holds fits))),
+  ap (λ ns. Shown (request_event row adds ns)) (smalls_are holds fits (request_few row))
+      ∙ ap (λ e. Shown e) (request_first row adds n.small),
+  request_actor row most adds x.0 (subst (λ ns. AreInRange ns []) (sym (request_smalls row adds x.0 counts.0))
+      (subst (AreInRange x.0) (sym (none_left x.1 counts.1)) (in_range holds fits))),
 )
 
-pub read_range : (p most adds : ℕ) (x : LineNumbers) → HasCounts 4 false x → IsInRange most (Shown (read_event (record { 0 = p }) adds x.0)) → IsWithin 1 most p × AreInRange x.0 x.1
-read_range p most adds x counts range =
-    ((range.0.least, range.0.most), subst (AreInRange x.0) (none_left x.1 counts.1) (subst (λ ns. AreInRange ns []) (all_of_them 4 x.0 counts.0) range.1))
+pub read_range : (p most adds : ℕ) (x : LineNumbers) → HasCounts 4 false x
+    → IsInRange most (Shown (read_event (record { 0 = p }) adds x.0)) → IsWithin 1 most p × AreInRange x.0 x.1
+read_range p most adds x counts range = (
+  (range.0.least, range.0.most),
+  subst (AreInRange x.0) (none_left x.1 counts.1)
+      (subst (λ ns. AreInRange ns []) (all_of_them 4 x.0 counts.0) range.1),
+)
 
-pub read_out : (p most adds : ℕ) (x : LineNumbers) (n : Numbers) → HasCounts 4 false x → Holds 4 false x n → n.within ≡ false → IsInRange most (Shown (read_event (record { 0 = p }) adds x.0)) → ⊥
+pub read_out : (p most adds : ℕ) (x : LineNumbers) (n : Numbers) → HasCounts 4 false x → Holds 4 false x n
+    → n.within ≡ false → IsInRange most (Shown (read_event (record { 0 = p }) adds x.0)) → ⊥
 read_out p most adds x n counts holds unfit range = out_of_range holds unfit (read_range p most adds x counts range).1
 
-pub read_made : (p q most adds : ℕ) (x : LineNumbers) (n : Numbers) → (q ≡ p) × IsWithin 1 most p → HasCounts 4 false x → Holds 4 false x n → n.within ≡ true
+pub read_made : (p q most adds : ℕ) (x : LineNumbers) (n : Numbers) → (q ≡ p) × IsWithin 1 most p → HasCounts 4 false x
+    → Holds 4 false x n → n.within ≡ true
     → Says most (Shown (read_event (record { 0 = p }) adds x.0)) (Some (read_event (record { 0 = q }) adds n.small))
 read_made p q most adds x n in_it counts holds fits = (
-  ap (λ ns. Shown (read_event (record { 0 = p }) adds ns)) (smalls_are holds fits (omega arith)) ∙ ap (λ k. Shown (read_event (record { 0 = k }) adds n.small)) (sym in_it.0),
+  ap (λ ns. Shown (read_event (record { 0 = p }) adds ns)) (smalls_are holds fits (omega arith))
+      ∙ ap (λ k. Shown (read_event (record { 0 = k }) adds n.small)) (sym in_it.0),
   (
     record { least = in_it.1.0; most = in_it.1.1 },
-    subst (λ ns. AreInRange ns []) (sym (all_of_them 4 x.0 counts.0)) (subst (AreInRange x.0) (sym (none_left x.1 counts.1)) (in_range holds fits)),
+    subst (λ ns. AreInRange ns []) (sym (all_of_them 4 x.0 counts.0))
+        (subst (AreInRange x.0) (sym (none_left x.1 counts.1)) (in_range holds fits)),
   ),
 )
 
-pub reply_smalls_are : (row : ReplyRow) (ns ws : List ℕ) → length ns ≡ reply_count row → reply_smalls (reply_of row ns ws) ≡ ns
+pub reply_smalls_are : (row : ReplyRow) (ns ws : List ℕ) → length ns ≡ reply_count row
+    → reply_smalls (reply_of row ns ws) ≡ ns
 reply_smalls_are answer.Count ns ws is = all_of_them 1 ns is
 reply_smalls_are answer.NoSpace ns ws is = all_of_them 1 ns is
 reply_smalls_are answer.Done ns ws is = none_left ns is
@@ -216,7 +243,8 @@ reply_smalls_are answer.TooBig ns ws is = none_left ns is
 reply_smalls_are answer.Stopped ns ws is = none_left ns is
 reply_smalls_are answer.ReadFault ns ws is = none_left ns is
 
-pub reply_wides_are : (row : ReplyRow) (ns ws : List ℕ) → length ws ≡ flag (reply_is_wide row) → reply_wides (reply_of row ns ws) ≡ ws
+pub reply_wides_are : (row : ReplyRow) (ns ws : List ℕ) → length ws ≡ flag (reply_is_wide row)
+    → reply_wides (reply_of row ns ws) ≡ ws
 reply_wides_are answer.Count ns ws is = all_of_them 1 ws is
 reply_wides_are answer.NoSpace ns ws is = none_left ws is
 reply_wides_are answer.Done ns ws is = none_left ws is
@@ -238,7 +266,8 @@ reply_few answer.TooBig = omega arith
 reply_few answer.Stopped = omega arith
 reply_few answer.ReadFault = omega arith
 
-reply_first : (row : ReplyRow) (n : Numbers) → reply_of row n.small (n.wide ∷ []) ≡ reply_of row (from 0 (reply_count row) n.small) (wide_of (reply_is_wide row) n)
+reply_first : (row : ReplyRow) (n : Numbers) → reply_of row n.small (n.wide ∷ [])
+    ≡ reply_of row (from 0 (reply_count row) n.small) (wide_of (reply_is_wide row) n)
 reply_first answer.Count n = refl
 reply_first answer.NoSpace n = refl
 reply_first answer.Done n = refl
@@ -249,12 +278,16 @@ reply_first answer.TooBig n = refl
 reply_first answer.Stopped n = refl
 reply_first answer.ReadFault n = refl
 
-pub reply_out : (row : ReplyRow) (x : LineNumbers) (n : Numbers) → HasCounts (reply_count row) (reply_is_wide row) x → Holds (reply_count row) (reply_is_wide row) x n
+pub reply_out : (row : ReplyRow) (x : LineNumbers) (n : Numbers) → HasCounts (reply_count row) (reply_is_wide row) x
+    → Holds (reply_count row) (reply_is_wide row) x n
     → n.within ≡ false → IsReplyInRange (reply_of row x.0 x.1) → ⊥
 reply_out row x n counts holds unfit range =
-    out_of_range holds unfit (subst (AreInRange x.0) (reply_wides_are row x.0 x.1 counts.1) (subst (λ ns. AreInRange ns (reply_wides (reply_of row x.0 x.1))) (reply_smalls_are row x.0 x.1 counts.0) range))
+    out_of_range holds unfit (subst (AreInRange x.0) (reply_wides_are row x.0 x.1 counts.1)
+    (subst (λ ns. AreInRange ns (reply_wides (reply_of row x.0 x.1))) (reply_smalls_are row x.0 x.1 counts.0)
+    range))
 
-pub reply_made : (row : ReplyRow) (x : LineNumbers) (n : Numbers) → HasCounts (reply_count row) (reply_is_wide row) x → Holds (reply_count row) (reply_is_wide row) x n
+pub reply_made : (row : ReplyRow) (x : LineNumbers) (n : Numbers) → HasCounts (reply_count row) (reply_is_wide row) x
+    → Holds (reply_count row) (reply_is_wide row) x n
     → n.within ≡ true → Keeps IsReplyInRange (reply_of row x.0 x.1) (Some (reply_of row n.small (n.wide ∷ [])))
 reply_made row x n counts holds fits = (
   reply_first row n

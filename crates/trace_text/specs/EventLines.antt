@@ -14,14 +14,16 @@ use Rattle.split_types.specs.Lines.{line}
 use Rattle.split_types.specs.EventText.{numerals, flag, subject, event_words}
 use Rattle.workload_reader.specs.Table.{IsActorOf}
 
--- the line of an event, or that of a map which says neither that its blocks are new nor that they aren't, but another number
+-- the line of an event, or that of a map which says neither that its blocks are new nor that they aren't, but another
+-- number
 pub data EventLine : Type 0 where
   Shown : Event → EventLine
   OddMap : ℕ → ℕ → ℕ → ℕ → ℕ → ℕ → ℕ → EventLine
 
 abbrev pub words : EventLine → List (List ℕ)
 words (Shown e) = event_words e
-words (OddMap slot serial page n block new size) = codes "map" ∷ codes "wb" ∷ numerals (slot ∷ serial ∷ page ∷ n ∷ block ∷ new ∷ size ∷ [])
+words (OddMap slot serial page n block new size) = codes "map" ∷ codes "wb" ∷ numerals
+    (slot ∷ serial ∷ page ∷ n ∷ block ∷ new ∷ size ∷ [])
 
 abbrev pub text_line : EventLine → List ℕ
 text_line l = line (words l)
@@ -62,7 +64,8 @@ smalls (Shown (event.Drop by slot serial)) = slot.0 ∷ serial.0 ∷ []
 smalls (Shown (event.Flushed by)) = []
 smalls (Shown (event.Ret by answer)) = reply_smalls answer
 smalls (Shown (event.Serve serial page n)) = serial.0 ∷ page ∷ n ∷ []
-smalls (Shown (event.Map slot serial page n block new size)) = slot.0 ∷ serial.0 ∷ page ∷ n ∷ block ∷ flag new ∷ size ∷ []
+smalls (Shown (event.Map slot serial page n block new size)) =
+    slot.0 ∷ serial.0 ∷ page ∷ n ∷ block ∷ flag new ∷ size ∷ []
 smalls (Shown event.Skip) = []
 smalls (Shown (event.Seal t k)) = t.0 ∷ k ∷ []
 smalls (Shown (event.Add by r)) = r.first ∷ r.n ∷ subject r.kind

@@ -32,5 +32,6 @@ pub record EventRefused (text : List ℕ) (most count before : ℕ) (c : Cause) 
 -- so many events from the line of number first on, or which line of them is refused first
 abbrev pub ReadsEvents : List ℕ → ℕ → ℕ → ℕ → Result (List Event × Bor (List ℕ)) ReadWorkload → Type 0
 ReadsEvents text first most count (Ok r) = EventsAt text most count r.0 r.1.now
-ReadsEvents text first most count (Err (fault.Line f)) = (before : ℕ) × (first + before ≡ f.line) × EventRefused text most count before f.cause
+ReadsEvents text first most count (Err (fault.Line f)) = (before : ℕ) × (first + before ≡ f.line)
+    × EventRefused text most count before f.cause
 ReadsEvents text first most count (Err fault.Memory) = Unit {0}

@@ -57,5 +57,6 @@ pub record WidenedBy (old new : Numbers) (text : List ℕ) (has_wide : Bool) (re
   pub within_is : new.within ≡ (old.within && list_all is_wide ws)
 
 abbrev pub Widens : Numbers → List ℕ → Bool → Option (Numbers × Bor (List ℕ)) → Type 0
-Widens old text has_wide None = (ws : List ℕ) (rest : List ℕ) → length ws ≡ flag has_wide → ends_number rest ≡ true → text ≢ behind (numerals ws) rest
+Widens old text has_wide None = (ws : List ℕ) (rest : List ℕ) → length ws ≡ flag has_wide → ends_number rest ≡ true
+    → text ≢ behind (numerals ws) rest
 Widens old text has_wide (Some r) = WidenedBy old r.0 text has_wide r.1.now

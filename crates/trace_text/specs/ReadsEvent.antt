@@ -12,11 +12,14 @@ pub record HasLine (most adds : ℕ) (e : Event) : Type 0 where
   pub formed : IsFormed adds (Shown e)
   pub range : IsInRange most (Shown e)
 
--- why no event's line stands at the front of a text: it is none; or it isn't whole; or a number of it is out of its range
+-- why no event's line stands at the front of a text: it is none; or it isn't whole; or a number of it is out of its
+-- range
 abbrev pub StopsEvent : ℕ → ℕ → List ℕ → Cause → Type 0
-StopsEvent most adds text cause.Form = (has_newline text ≡ true) × ((l : EventLine) (rest : List ℕ) → IsFormed adds l → text ≢ text_line l ++ rest)
+StopsEvent most adds text cause.Form = (has_newline text ≡ true)
+    × ((l : EventLine) (rest : List ℕ) → IsFormed adds l → text ≢ text_line l ++ rest)
 StopsEvent most adds text cause.Cut = has_newline text ≡ false
-StopsEvent most adds text cause.Range = (l : EventLine) × (rest : List ℕ) × IsFormed adds l × (text ≡ text_line l ++ rest) × (IsInRange most l → ⊥)
+StopsEvent most adds text cause.Range = (l : EventLine) × (rest : List ℕ) × IsFormed adds l
+    × (text ≡ text_line l ++ rest) × (IsInRange most l → ⊥)
 StopsEvent most adds text c = ⊥
 
 -- an event's line stands at the front, and this follows it; or why none does

@@ -46,10 +46,14 @@ pub record FrontAt (text : List ℕ) (w : Workload) (lines : ℕ) (rest : List �
 -- one of the workload; that of the number of events; or one of an event
 pub data LineRefused (text : List ℕ) (line : ℕ) (c : Cause) : Type 0 where
   first_refused : line ≡ 1 → StopsFirst text c → LineRefused text line c
-  version_refused : (version : ℕ) (body : List ℕ) → line ≡ 2 → c ≡ cause.Form → FirstLine text version body → IsMispaired version body → LineRefused text line c
-  workload_refused : (body : List ℕ) (lines : ℕ) → line ≡ 2 + lines → HeadAt text body → RefusesFront body lines c → LineRefused text line c
-  count_refused : (w : Workload) (lines : ℕ) (rest : List ℕ) → line ≡ 2 + lines → FrontAt text w lines rest → StopsCount rest c → LineRefused text line c
-  event_refused : (w : Workload) (lines count before : ℕ) (rest events : List ℕ) → line ≡ 3 + lines + before → FrontAt text w lines rest
+  version_refused : (version : ℕ) (body : List ℕ) → line ≡ 2 → c ≡ cause.Form → FirstLine text version body
+      → IsMispaired version body → LineRefused text line c
+  workload_refused : (body : List ℕ) (lines : ℕ) → line ≡ 2 + lines → HeadAt text body → RefusesFront body lines c
+      → LineRefused text line c
+  count_refused : (w : Workload) (lines : ℕ) (rest : List ℕ) → line ≡ 2 + lines → FrontAt text w lines rest
+      → StopsCount rest c → LineRefused text line c
+  event_refused : (w : Workload) (lines count before : ℕ) (rest events : List ℕ) → line ≡ 3 + lines + before
+      → FrontAt text w lines rest
       → CountLine rest count events → EventRefused events (most_processes w) count before c → LineRefused text line c
 
 -- a whole trace, of which the workload's lines are too long

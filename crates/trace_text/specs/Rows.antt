@@ -51,8 +51,10 @@ abbrev pub client_event : ClientRow → Pid → List ℕ → List ℕ → Event
 client_event client.Enter by ns ws = event.Enter by (slice_index ns 0)
 client_event client.Admit by ns ws = event.Admit by
 client_event client.Make by ns ws = event.Make by (record { 0 = slice_index ns 0 }) (record { 0 = slice_index ns 1 })
-client_event client.Put by ns ws = event.Put by (record { 0 = slice_index ns 0 }) (slice_index ns 1) (slice_index ns 2) (slice_index ns 3) (slice_index ns 4)
-client_event client.Get by ns ws = event.Get by (record { 0 = slice_index ns 0 }) (slice_index ns 1) (slice_index ns 2) (slice_index ns 3) (slice_index ws 0)
+client_event client.Put by ns ws = event.Put by (record { 0 = slice_index ns 0 }) (slice_index ns 1) (slice_index ns 2)
+    (slice_index ns 3) (slice_index ns 4)
+client_event client.Get by ns ws = event.Get by (record { 0 = slice_index ns 0 }) (slice_index ns 1) (slice_index ns 2)
+    (slice_index ns 3) (slice_index ws 0)
 client_event client.Drop by ns ws = event.Drop by (record { 0 = slice_index ns 0 }) (record { 0 = slice_index ns 1 })
 client_event client.Flushed by ns ws = event.Flushed by
 client_event client.Evict by ns ws = event.Evict by (record { 0 = slice_index ns 0 }) (slice_index ns 1)
@@ -79,10 +81,12 @@ thread_is_wide thread.Tick = true
 thread_is_wide _ = false
 
 abbrev pub map_event : List ℕ → Bool → EventLine
-map_event ns new = Shown (event.Map (record { 0 = slice_index ns 0 }) (record { 0 = slice_index ns 1 }) (slice_index ns 2) (slice_index ns 3) (slice_index ns 4) new (slice_index ns 6))
+map_event ns new = Shown (event.Map (record { 0 = slice_index ns 0 }) (record { 0 = slice_index ns 1 })
+    (slice_index ns 2) (slice_index ns 3) (slice_index ns 4) new (slice_index ns 6))
 
 abbrev pub odd_map : List ℕ → ℕ → EventLine
-odd_map ns new = OddMap (slice_index ns 0) (slice_index ns 1) (slice_index ns 2) (slice_index ns 3) (slice_index ns 4) new (slice_index ns 6)
+odd_map ns new = OddMap (slice_index ns 0) (slice_index ns 1) (slice_index ns 2) (slice_index ns 3) (slice_index ns 4)
+    new (slice_index ns 6)
 
 -- what the number says, if it says so
 abbrev pub is_new : ℕ → Option Bool
@@ -93,7 +97,8 @@ abbrev pub map_line : List ℕ → ℕ → EventLine
 map_line ns new = if new == 0 then map_event ns false else (if new == 1 then map_event ns true else odd_map ns new)
 
 abbrev pub thread_line : ThreadRow → List ℕ → List ℕ → EventLine
-thread_line thread.Serve ns ws = Shown (event.Serve (record { 0 = slice_index ns 0 }) (slice_index ns 1) (slice_index ns 2))
+thread_line thread.Serve ns ws = Shown (event.Serve (record { 0 = slice_index ns 0 }) (slice_index ns 1)
+    (slice_index ns 2))
 thread_line thread.Map ns ws = map_line ns (slice_index ns 5)
 thread_line thread.Skip ns ws = Shown event.Skip
 thread_line thread.Seal ns ws = Shown (event.Seal (record { 0 = slice_index ns 0 }) (slice_index ns 1))
@@ -143,7 +148,8 @@ request_event row adds ns = event.Add (asker row) (request adds (request_kind ro
 
 -- the request of one page's read
 abbrev pub read_event : Pid → ℕ → List ℕ → Event
-read_event by adds ns = event.Add (actor.Client by) (request adds (kind.Read by (record { 0 = slice_index ns 2 }) (slice_index ns 3)) ns)
+read_event by adds ns = event.Add (actor.Client by) (request adds
+    (kind.Read by (record { 0 = slice_index ns 2 }) (slice_index ns 3)) ns)
 
 abbrev pub reply_head : ReplyRow → List ℕ
 reply_head answer.Done = codes " done"

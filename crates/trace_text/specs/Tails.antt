@@ -82,10 +82,13 @@ Says most l (Some e) = (l ≡ Shown e) × IsInRange most l
 
 -- what was read of a line behind what it begins with, and what follows it; or no such line stands there
 abbrev pub ReadsTail : ℕ → ℕ → Row → List ℕ → Option (Option Event × Bor (List ℕ)) → Type 0
-ReadsTail most adds row text None = (l : EventLine) (rest : List ℕ) → IsFormed adds l → row_of l ≡ row → text ≢ tail l rest
-ReadsTail most adds row text (Some r) = (l : EventLine) × IsFormed adds l × (row_of l ≡ row) × (text ≡ tail l r.1.now) × Says most l r.0
+ReadsTail most adds row text None = (l : EventLine) (rest : List ℕ) → IsFormed adds l → row_of l ≡ row
+    → text ≢ tail l rest
+ReadsTail most adds row text (Some r) = (l : EventLine) × IsFormed adds l × (row_of l ≡ row) × (text ≡ tail l r.1.now)
+    × Says most l r.0
 
 -- the same of a whole line
 abbrev pub ReadsLine : ℕ → ℕ → List ℕ → Option (Option Event × Bor (List ℕ)) → Type 0
 ReadsLine most adds text None = (l : EventLine) (rest : List ℕ) → IsFormed adds l → text ≢ text_line l ++ rest
-ReadsLine most adds text (Some r) = (l : EventLine) × IsFormed adds l × (text ≡ text_line l ++ r.1.now) × Says most l r.0
+ReadsLine most adds text (Some r) = (l : EventLine) × IsFormed adds l × (text ≡ text_line l ++ r.1.now)
+    × Says most l r.0

@@ -26,7 +26,8 @@ IsTraceVersion version = IsWithin 1 2 version
 
 -- why no first line of a trace stands at the front: it is none, or it isn't whole
 abbrev pub StopsFirst : List ℕ → Cause → Type 0
-StopsFirst text cause.Form = (has_newline text ≡ true) × ((version : ℕ) (rest : List ℕ) → IsTraceVersion version → text ≢ first_text version ++ rest)
+StopsFirst text cause.Form = (has_newline text ≡ true)
+    × ((version : ℕ) (rest : List ℕ) → IsTraceVersion version → text ≢ first_text version ++ rest)
 StopsFirst text cause.Cut = has_newline text ≡ false
 StopsFirst text c = ⊥
 
@@ -56,7 +57,8 @@ abbrev pub Mispairs : ℕ → List ℕ → Bool → Type 0
 Mispairs version text true = IsMispaired version text
 Mispairs version text false = IsMispaired version text → ⊥
 
--- why no line stands at the front that says how many events follow: it is none, or it isn't whole, or there are too many
+-- why no line stands at the front that says how many events follow: it is none, or it isn't whole, or there are too
+-- many
 abbrev pub StopsCount : List ℕ → Cause → Type 0
 StopsCount text cause.Form = (has_newline text ≡ true) × ((n : ℕ) (rest : List ℕ) → text ≢ count_text n ++ rest)
 StopsCount text cause.Cut = has_newline text ≡ false

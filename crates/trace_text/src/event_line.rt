@@ -54,7 +54,8 @@ fn reply(text: &[u8]) -> Option<(Option<Reply>, &[u8])>
 
 /// The return of a call, where its client and its answer are in their ranges.
 fn return_of(by: Option<u32>, reply: Option<Reply>) -> Option<Event>
-    ensures { (p most : ℕ) (r : Reply) → Keeps (IsWithin 1 most) p by → Keeps IsReplyInRange r reply → Says most (Shown (Event.Ret (record { 0 = p }) r)) result }
+    ensures { (p most : ℕ) (r : Reply) → Keeps (IsWithin 1 most) p by → Keeps IsReplyInRange r reply
+        → Says most (Shown (Event.Ret (record { 0 = p }) r)) result }
 {
     let by = Pid(by?);
     let reply = reply?;
@@ -96,7 +97,8 @@ fn outcome(text: &[u8]) -> Option<(bool, &[u8])>
 
 /// The completion of a request, where the numbers are in their ranges.
 fn done_of(k: Option<u32>, id: Option<u32>, ok: bool) -> Option<Event>
-    ensures { (i j most : ℕ) → Keeps (IsWithin 0 4294967295) i k → Keeps (IsWithin 0 4294967295) j id → Says most (Shown (Event.Done i (record { 0 = j }) ok)) result }
+    ensures { (i j most : ℕ) → Keeps (IsWithin 0 4294967295) i k → Keeps (IsWithin 0 4294967295) j id
+        → Says most (Shown (Event.Done i (record { 0 = j }) ok)) result }
 {
     let k = k?;
     let id = ReqId(id?);

@@ -55,8 +55,10 @@ impl ClientRow {
 
     /// What the client does, where its number and the others are in their ranges.
     pub(crate) fn made(self, by: Option<u32>, n: &Numbers) -> Option<Event>
-        ensures { (p most : ℕ) (x : LineNumbers) → Keeps (IsWithin 1 most) p by → HasCounts (client_count self) (client_is_wide self) x
-            → Holds (client_count self) (client_is_wide self) x n.now → Says most (Shown (client_event self (record { 0 = p }) x.0 x.1)) result }
+        ensures { (p most : ℕ) (x : LineNumbers) → Keeps (IsWithin 1 most) p by
+            → HasCounts (client_count self) (client_is_wide self) x
+            → Holds (client_count self) (client_is_wide self) x n.now
+            → Says most (Shown (client_event self (record { 0 = p }) x.0 x.1)) result }
     {
         let by = Pid(by?);
         if n.within {
@@ -154,7 +156,8 @@ impl RequestRow {
 
     /// A request behind so many others, where the numbers are in their ranges.
     pub(crate) fn made(self, id: u32, n: &Numbers) -> Option<Event>
-        ensures { (most : ℕ) (x : LineNumbers) → HasCounts (request_count self) false x → Holds (request_count self) false x n.now
+        ensures { (most : ℕ) (x : LineNumbers) → HasCounts (request_count self) false x
+            → Holds (request_count self) false x n.now
             → Says most (Shown (request_event self id x.0)) result }
     {
         if n.within {
@@ -182,7 +185,8 @@ fn request(id: u32, kind: ReqKind, n: &Numbers) -> Request
 
 /// The request of a page's read behind so many others, where the numbers are in their ranges.
 pub(crate) fn made_read(by: Option<u32>, id: u32, n: &Numbers) -> Option<Event>
-    ensures { (p most : ℕ) (x : LineNumbers) → Keeps (IsWithin 1 most) p by → HasCounts 4 false x → Holds 4 false x n.now
+    ensures { (p most : ℕ) (x : LineNumbers) → Keeps (IsWithin 1 most) p by → HasCounts 4 false x
+        → Holds 4 false x n.now
         → Says most (Shown (read_event (record { 0 = p }) id x.0)) result }
 {
     let by = Pid(by?);
@@ -217,7 +221,8 @@ impl ReplyRow {
 
     /// The answer of these numbers, where they are in their ranges.
     pub(crate) fn made(self, n: &Numbers) -> Option<Reply>
-        ensures { (x : LineNumbers) → HasCounts (reply_count self) (reply_is_wide self) x → Holds (reply_count self) (reply_is_wide self) x n.now
+        ensures { (x : LineNumbers) → HasCounts (reply_count self) (reply_is_wide self) x
+            → Holds (reply_count self) (reply_is_wide self) x n.now
             → Keeps IsReplyInRange (reply_of self x.0 x.1) result }
     {
         if n.within { Some(self.reply(n)) } else { None }

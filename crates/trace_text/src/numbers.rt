@@ -37,7 +37,8 @@ fn small(text: &[u8]) -> Option<(u32, bool, &[u8])>
 /// So many numbers, each behind a space, and what follows them.
 fn smalls(text: &[u8], count: usize) -> Option<(Numbers, &[u8])>
     requires { count ≤ 7 }
-    ensures { MatchOption result ((ns : List ℕ) (rest : List ℕ) → length ns ≡ count → ends_number rest ≡ true → text.now ≢ behind (numerals ns) rest)
+    ensures { MatchOption result ((ns : List ℕ) (rest : List ℕ) → length ns ≡ count → ends_number rest ≡ true
+        → text.now ≢ behind (numerals ns) rest)
         (λ r. SmallsAt text.now count r.0.small r.0.within r.1.now) }
 {
     let mut numbers = Numbers {

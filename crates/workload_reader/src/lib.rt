@@ -5,7 +5,8 @@
 //! read and printed, and nothing in the definitions reads. Want of memory may come in place of either. What makes
 //! such reading exact are laws, on functions that do nothing: a text spells one workload at most
 //! ([`texts_spell_one_workload`]), it has one refusal at most, and never both; so its answer is the one that is due
-//! ([`reading_is_exact`]). [`read_front`] reads the workload at the front of a longer text. A line is read in place, each number once, and names of files are found by key.
+//! ([`reading_is_exact`]). [`read_front`] reads the workload at the front of a longer text. A line is read in place,
+//! each number once, and names of files are found by key.
 //!
 //! [`write_workload`] and [`put_workload`] print a workload, one that is not accepted too. [`generate`] makes one
 //! from a number.

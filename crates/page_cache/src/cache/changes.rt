@@ -111,7 +111,8 @@ impl<S: TagStore> Cache<S> {
         requires page { IsSome (slice_index_or self.old.places at None) }
         requires len { length bytes.now ≡ 4096 }
         ensures { self.new ≡ record self.old {
-          places = slice_set self.old.places at (with_bytes (λ old. bytes.now) (slice_index_or self.old.places at None));
+          places = slice_set self.old.places at (with_bytes (λ old. bytes.now)
+              (slice_index_or self.old.places at None));
         } }
     {
         let page = self.places[at].as_mut().unwrap();

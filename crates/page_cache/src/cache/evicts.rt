@@ -36,7 +36,8 @@ impl<S: TagStore> Cache<S> {
     pub fn free(&mut self, tags: &mut S, s: Serial)
         requires { Covers same (tags_in self.old) (S.now tags.old) }
         ensures pages { Frees (S.now tags.old) (S.now tags.new) self.old self.new s }
-        ensures moved { Moved (S.now tags.old) (S.now tags.new) (held same (tags_in self.old)) (held same (tags_in self.new)) }
+        ensures moved { Moved (S.now tags.old) (S.now tags.new) (held same (tags_in self.old))
+            (held same (tags_in self.new)) }
         ensures spare { self.new.spare ≡ self.old.spare }
         ensures tags_spare { (S.now tags.old).spare ≤ (S.now tags.new).spare }
     {
@@ -49,8 +50,10 @@ impl<S: TagStore> Cache<S> {
     fn free_page(&mut self, tags: &mut S, b: Buf)
         requires { Covers same (tags_in self.old) (S.now tags.old) }
         ensures page { ChangesOnly self.old self.new b None }
-        ensures causes { (k : _) → k ≢ b → causes_of (S.now tags.new) self.new k ≡ causes_of (S.now tags.old) self.old k }
-        ensures moved { Moved (S.now tags.old) (S.now tags.new) (held same (tags_in self.old)) (held same (tags_in self.new)) }
+        ensures causes { (k : _) → k ≢ b → causes_of (S.now tags.new) self.new k
+            ≡ causes_of (S.now tags.old) self.old k }
+        ensures moved { Moved (S.now tags.old) (S.now tags.new) (held same (tags_in self.old))
+            (held same (tags_in self.new)) }
         ensures touches { KeepsTouches self.old self.new }
         ensures spare { self.new.spare ≡ self.old.spare }
         ensures tags_spare { (S.now tags.old).spare ≤ (S.now tags.new).spare }

@@ -122,11 +122,13 @@ impl<S: TagStore> Cache<S> {
     /// Lets a page be clean and busy, and releases its tag.
     fn take_page(&mut self, tags: &mut S, at: usize)
         requires page { IsSome (slice_index_or self.old.places at None) }
-        requires live { (n : ℕ) → use_in same (tag_in (slice_index_or self.old.places at None)) n ≤ (S.now tags.old).uses n }
+        requires live { (n : ℕ) → use_in same (tag_in (slice_index_or self.old.places at None)) n ≤
+            (S.now tags.old).uses n }
         ensures page { self.new ≡ record self.old {
           places = slice_set self.old.places at (option_map taken (slice_index_or self.old.places at None));
         } }
-        ensures moved { Moved (S.now tags.old) (S.now tags.new) (use_in same (tag_in (slice_index_or self.old.places at None))) no_use }
+        ensures moved { Moved (S.now tags.old) (S.now tags.new)
+            (use_in same (tag_in (slice_index_or self.old.places at None))) no_use }
         ensures spare { (S.now tags.old).spare ≤ (S.now tags.new).spare }
     {
         let state = State {

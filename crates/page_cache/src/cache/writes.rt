@@ -70,7 +70,8 @@ impl<S: TagStore> Cache<S> {
         requires place { CanWrite self.old b }
         requires covers { Covers same (tags_in self.old) (S.now tags.old) }
         ensures ok { OnOk result (Writes (S.now tags.old) (S.now tags.new) self.old self.new b from to fill by) }
-        ensures moved { Moved (S.now tags.old) (S.now tags.new) (held same (tags_in self.old)) (held same (tags_in self.new)) }
+        ensures moved { Moved (S.now tags.old) (S.now tags.new) (held same (tags_in self.old))
+            (held same (tags_in self.new)) }
 
         // After want of memory there may be more room.
         ensures err { OnErr result (self.new ≡ record self.old { spare = self.new.spare }) }

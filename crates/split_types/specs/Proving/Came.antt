@@ -30,7 +30,8 @@ pub record HasCall (w : Workload) (h : List Event) (p : Pid) (c : Call) : Type 0
   pub call : call_of w h p.0 ≡ Some c
 
 -- p has an admitted write under way, to this file
-pub record IsWriting (w : Workload) (h : List Event) (p : Pid) (name : List ℕ) (off len fill : ℕ) (serial : Serial) : Type 0 where
+pub record IsWriting (w : Workload) (h : List Event) (p : Pid) (name : List ℕ) (off len fill : ℕ) (serial : Serial) :
+    Type 0 where
   pub has : HasCall w h p (Write name off len fill)
   pub entered : IsTrue (is_entered h p.0)
   pub admitted : IsTrue (is_admitted h p.0)

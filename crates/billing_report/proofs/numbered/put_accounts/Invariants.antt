@@ -6,4 +6,5 @@ use Rattle.line_printer.specs.Puts.{Puts}
 use Rattle.billing_report.proofs.numbered.put_accounts.Given as goal
 
 abbrev pub invariant-loop-i : goal.invariant-loop-i
-invariant-loop-i g l = Puts g.P.Printer.due l.fn.out l.out (lines_of account_words (enumerate_from 1 (take l.i l.accounts)))
+invariant-loop-i g l = Puts g.P.Printer.due l.fn.out l.out
+    (lines_of account_words (enumerate_from 1 (take l.i l.accounts)))

@@ -4,4 +4,5 @@ use Rattle.split_types.specs.ReportText.{made_words}
 use Rattle.billing_report.proofs.numbered.put_clients.Goals as goal
 
 pub loop-i-preserved : goal.loop-i-preserved
-loop-i-preserved g c = puts_numbered made_words c.args.made.now c.loop-i.i 0 (omega arith) c.loop-i.invariant c.put_client.ensures
+loop-i-preserved g c = puts_numbered made_words c.args.made.now c.loop-i.i 0 (omega arith) c.loop-i.invariant
+    c.put_client.ensures

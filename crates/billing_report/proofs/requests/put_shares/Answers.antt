@@ -4,4 +4,5 @@ use Rattle.split_types.specs.ReportText.{share_word}
 use Rattle.billing_report.proofs.requests.put_shares.Goals as goal
 
 pub loop-share-preserved : goal.loop-share-preserved
-loop-share-preserved g c = puts_field share_word c.args.shares.now c.loop-share.share-index _ (omega arith) c.loop-share.invariant c.put_share.ensures
+loop-share-preserved g c = puts_field share_word c.args.shares.now c.loop-share.share-index _ (omega arith)
+    c.loop-share.invariant c.put_share.ensures

@@ -19,5 +19,6 @@ loop-at-preserved g c =
       last = omega arith;
       len = length-set nodes at made ∙ c.loop-at.invariant.len;
       leaves = drop-set-lt c.args.places nodes at made within ∙ c.loop-at.invariant.leaves;
-      others = node_made g.K.Ord.cmp nodes c.args.places at made some within c.loop-at.invariant.len lesser c.loop-at.invariant.others;
+      others = node_made g.K.Ord.cmp nodes c.args.places at made some within c.loop-at.invariant.len lesser
+          c.loop-at.invariant.others;
     }

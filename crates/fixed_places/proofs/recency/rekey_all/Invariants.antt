@@ -6,6 +6,7 @@ use Rattle.fixed_places.proofs.recency.rekey_all.Given as goal
 abbrev pub invariant-loop-i : goal.invariant-loop-i
 invariant-loop-i l = record {
   len : length l.candidates ≡ length l.touches;
-  done : (k : ℕ) → k < l.i → get_or l.candidates k None ≡ rekeyed (get_or l.touches k 0) (get_or l.initial.candidates k None);
+  done : (k : ℕ) → k < l.i → get_or l.candidates k None
+      ≡ rekeyed (get_or l.touches k 0) (get_or l.initial.candidates k None);
   rest : (k : ℕ) → l.i ≤ k → get_or l.candidates k None ≡ get_or l.initial.candidates k None;
 }

@@ -16,5 +16,6 @@ loop-j-preserved c =
           (drop at c.loop-j.out),
       length-drop at c.loop-j.out,
     ) in
-    put_dir_more entry_spelling c.args.entries.now c.loop-j.out _ c.put_entry.new.out c.loop-j.j _ c.index-entries-j.result
+    put_dir_more entry_spelling c.args.entries.now c.loop-j.out _ c.put_entry.new.out c.loop-j.j _
+    c.index-entries-j.result
     c.loop-j-test.true c.index-entries-j.is c.put_entry.ensures len (omega arith) refl c.loop-j.invariant

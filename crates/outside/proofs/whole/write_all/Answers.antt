@@ -4,9 +4,11 @@ use Rattle.std.proofs.KnownBytes.{Appends-trans}
 use Rattle.outside.proofs.whole.write_all.Goals as goal
 
 -- the first n bytes of the rest move to the front
-moves_front : (all done rest : List ℕ) (n : ℕ) → all ≡ done ++ rest → all ≡ (done ++ take n rest) ++ take (length rest - n) (drop n rest)
+moves_front : (all done rest : List ℕ) (n : ℕ) → all ≡ done ++ rest
+    → all ≡ (done ++ take n rest) ++ take (length rest - n) (drop n rest)
 moves_front all done rest n e =
-    e ∙ ap (λ l. done ++ l) (sym (take-append-drop n rest)) ∙ sym (append_assoc done (take n rest) (drop n rest)) ∙ ap (λ l. (done ++ take n rest) ++ l) (sym (take_rest rest n))
+    e ∙ ap (λ l. done ++ l) (sym (take-append-drop n rest)) ∙ sym (append_assoc done (take n rest) (drop n rest))
+    ∙ ap (λ l. (done ++ take n rest) ++ l) (sym (take_rest rest n))
 
 pub loop-rest-preserved : goal.loop-rest-preserved
 loop-rest-preserved g c =
@@ -14,7 +16,11 @@ loop-rest-preserved g c =
     let rest = c.loop-rest.rest.now in
     let n = c.in_ok-count.count in
     record {
-      front = (done ++ take n rest, moves_front _ done rest n split, Appends-trans _ _ _ _ _ appended c.in_ok-count.ensures.bytes);
+      front = (
+        done ++ take n rest,
+        moves_front _ done rest n split,
+        Appends-trans _ _ _ _ _ appended c.in_ok-count.ensures.bytes,
+      );
       later = omega (arith, c.loop-rest.invariant.later, c.in_ok-count.ensures.cause.later);
       same_room = c.in_ok-count.ensures.same_room ∙ c.loop-rest.invariant.same_room;
     }

@@ -10,8 +10,15 @@ loop-alloc-preserved c =
     let len : length c.in_ok-vec.field-0.items ≡ 4096 = grind (arith, common_steps) in
     record {
       sized = rw c.push_reserved.ensures.items
-          (All-push (λ page. length page.items ≡ 4096) c.loop-alloc.ready.items c.in_ok-vec.field-0 c.loop-alloc.invariant.sized len);
+          (All-push (λ page. length page.items ≡ 4096) c.loop-alloc.ready.items c.in_ok-vec.field-0
+          c.loop-alloc.invariant.sized len);
       more = omega (arith, c.push_reserved.ensures.len, c.loop-alloc.invariant.more);
-      no_more = omega (arith, c.push_reserved.ensures.len, c.loop-alloc.invariant.no_more, c.len.ensures, c.loop-alloc-test.true);
+      no_more = omega (
+        arith,
+        c.push_reserved.ensures.len,
+        c.loop-alloc.invariant.no_more,
+        c.len.ensures,
+        c.loop-alloc-test.true,
+      );
       capacity = c.push_reserved.ensures.capacity ∙ c.loop-alloc.invariant.capacity;
     }

@@ -21,7 +21,8 @@ pub loop-parent-preserved : goal.loop-parent-preserved
 loop-parent-preserved g t c =
     let items = c.as_slice-parent-items.result.now in
     let j : ℕ = get_or items c.loop-parent.parent-index 0 in
-    parent-more c.args.h.now.events items c.loop-parent.parent-index j c.own-causes.result c.loop-parent.causes c.union-causes.result
+    parent-more c.args.h.now.events items c.loop-parent.parent-index j c.own-causes.result c.loop-parent.causes
+    c.union-causes.result
     c.loop-parent.invariant c.loop-parent-test.true refl
     (c.union-causes.ensures ∙ ap (λ b. union_of (c.loop-parent.causes ∷ b ∷ [])) c.in_ok-blame.ensures)
 
@@ -29,5 +30,7 @@ pub returns : goal.returns
 returns g t c =
     let items = c.as_slice-parent-items.result.now in
     let full : c.loop-parent.parent-index ≡ length items = omega arith in
-    all-parents c.args.h.now.events c.at-e.result c.args.i c.loop-parent.parent-index items c.own-causes.result c.loop-parent.causes
-    c.at-e.ensures.event (c.as_slice-parent-items.ensures ∙ c.in_ok-parents.ensures) c.own-causes.ensures full c.loop-parent.invariant
+    all-parents c.args.h.now.events c.at-e.result c.args.i c.loop-parent.parent-index items c.own-causes.result
+    c.loop-parent.causes
+    c.at-e.ensures.event (c.as_slice-parent-items.ensures
+    ∙ c.in_ok-parents.ensures) c.own-causes.ensures full c.loop-parent.invariant

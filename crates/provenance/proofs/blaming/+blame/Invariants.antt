@@ -7,4 +7,5 @@ abbrev pub decreases-blame : goal.decreases-blame
 decreases-blame g l = l.i
 
 abbrev pub invariant-loop-parent : goal.invariant-loop-parent
-invariant-loop-parent g l = l.causes ≡ union_of (l.initial.causes ∷ map (blame l.h.events) (take l.parent-index l.parent-items))
+invariant-loop-parent g l = l.causes ≡ union_of (l.initial.causes ∷ map (blame l.h.events)
+    (take l.parent-index l.parent-items))

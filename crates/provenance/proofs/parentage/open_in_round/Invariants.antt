@@ -7,4 +7,5 @@ use Rattle.provenance.proofs.parentage.open_in_round.Given as goal
 
 abbrev pub invariant-loop-seal : goal.invariant-loop-seal
 invariant-loop-seal g l =
-    l.places ≡ flat_map (λ seal. open_at seal.before (buffer_at l.block)) (seals_at l.fn.h.events (take l.seal-index l.seal-items))
+    l.places ≡ flat_map (λ seal. open_at seal.before (buffer_at l.block))
+    (seals_at l.fn.h.events (take l.seal-index l.seal-items))

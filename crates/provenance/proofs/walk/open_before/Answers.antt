@@ -7,14 +7,16 @@ pub loop-rest-preserved-then-is_closed : goal.loop-rest-preserved-then-is_closed
 loop-rest-preserved-then-is_closed g c =
     let n : ℕ = c.loop-rest.rest - 1 in
     let is : c.loop-rest.rest ≡ n + 1 = omega arith in
-    let kept = open-closed c.args.h.now.events c.at-e.result n c.loop-rest.rest _ _ _ is c.at-e.ensures.event c.in_ok-push_dirtied.ensures (sym c.is_closed.ensures ∙ c.if-is_closed.true) in
+    let kept = open-closed c.args.h.now.events c.at-e.result n c.loop-rest.rest _ _ _ is c.at-e.ensures.event
+    c.in_ok-push_dirtied.ensures (sym c.is_closed.ensures ∙ c.if-is_closed.true) in
     (omega arith, (c.requires.within, kept ∙ c.loop-rest.invariant.1.1))
 
 pub loop-rest-preserved : goal.loop-rest-preserved
 loop-rest-preserved g c =
     let n : ℕ = c.loop-rest.rest - 1 in
     let is : c.loop-rest.rest ≡ n + 1 = omega arith in
-    let kept = open-going c.args.h.now.events c.at-e.result n c.loop-rest.rest _ _ _ is c.at-e.ensures.event c.in_ok-push_dirtied.ensures (sym c.is_closed.ensures ∙ c.if-is_closed.false) in
+    let kept = open-going c.args.h.now.events c.at-e.result n c.loop-rest.rest _ _ _ is c.at-e.ensures.event
+    c.in_ok-push_dirtied.ensures (sym c.is_closed.ensures ∙ c.if-is_closed.false) in
     (omega (arith, c.loop-rest.invariant.0), (c.requires.within, kept ∙ c.loop-rest.invariant.1.1))
 
 pub returns : goal.returns

@@ -46,7 +46,8 @@ returns-then-has_own-clause-round g c =
     let is : c.loop-rest.rest ≡ n + 1 = omega arith in
     let old = c.loop-rest.invariant in
     walk-own c.args.h.now.events c.at-e.result n c.loop-rest.rest c.args.t c.loop-rest.places is c.at-e.ensures.event
-    (sym c.is_seal.ensures ∙ c.if-is_seal.false) (sym c.is_clear_add.ensures ∙ c.if-is_clear_add.true) (sym old.own ∙ c.if-has_own.true)
+    (sym c.is_seal.ensures ∙ c.if-is_seal.false) (sym c.is_clear_add.ensures ∙ c.if-is_clear_add.true) (sym old.own
+    ∙ c.if-has_own.true)
     ∙ old.round
 
 pub loop-rest-preserved-then-is_clear_add : goal.loop-rest-preserved-then-is_clear_add
@@ -63,7 +64,8 @@ loop-rest-preserved-then-is_clear_add g c =
       own = c.if-has_own.false;
       round =
           walk-clear h c.at-e.result n c.loop-rest.rest c.args.t c.loop-rest.places is c.at-e.ensures.event
-          (sym c.is_seal.ensures ∙ c.if-is_seal.false) (sym c.is_clear_add.ensures ∙ c.if-is_clear_add.true) (sym old.own ∙ c.if-has_own.false)
+          (sym c.is_seal.ensures ∙ c.if-is_seal.false) (sym c.is_clear_add.ensures
+          ∙ c.if-is_clear_add.true) (sym old.own ∙ c.if-has_own.false)
           ∙ old.round;
     }
 
@@ -79,7 +81,8 @@ loop-rest-preserved g c =
       places = old.places;
       own = old.own;
       round =
-          walk-other c.args.h.now.events c.at-e.result n c.loop-rest.rest c.args.t c.loop-rest.places is c.at-e.ensures.event
+          walk-other c.args.h.now.events c.at-e.result n c.loop-rest.rest c.args.t c.loop-rest.places is
+          c.at-e.ensures.event
           (sym c.is_seal.ensures ∙ c.if-is_seal.false) (sym c.is_clear_add.ensures ∙ c.if-is_clear_add.false)
           ∙ old.round;
     }

@@ -13,7 +13,8 @@ invariant-loop-rest g l = record {
   short : length l.h.events ≤ 2 ^ 32;
   places : All (λ place. place < l.count) l.places;
   own : l.has_own ≡ list_any (is_own l.t) (seals_at l.h.events l.places);
-  round : round_with (seals_at l.h.events l.places) (older l.h.events l.rest) l.t ≡ round_of (older l.h.events l.count) l.t;
+  round : round_with (seals_at l.h.events l.places) (older l.h.events l.rest) l.t
+      ≡ round_of (older l.h.events l.count) l.t;
 }
 
 abbrev pub decreases-loop-rest : goal.decreases-loop-rest

@@ -7,7 +7,8 @@ pub returns-then-is_seal_of-clause-place : goal.returns-then-is_seal_of-clause-p
 returns-then-is_seal_of-clause-place g c =
     let n : ℕ = c.loop-rest.rest - 1 in
     let is : c.loop-rest.rest ≡ n + 1 = omega arith in
-    seal-found c.args.h.now.events c.at.result n c.loop-rest.rest c.args.t is c.at.ensures.event (sym c.is_seal_of.ensures ∙ c.if-is_seal_of.true)
+    seal-found c.args.h.now.events c.at.result n c.loop-rest.rest c.args.t is c.at.ensures.event
+    (sym c.is_seal_of.ensures ∙ c.if-is_seal_of.true)
     ∙ c.loop-rest.invariant.1.1
 
 pub loop-rest-preserved : goal.loop-rest-preserved
@@ -19,4 +20,5 @@ loop-rest-preserved g c =
     (omega (arith, c.loop-rest.invariant.0), (c.requires, passed ∙ c.loop-rest.invariant.1.1))
 
 pub returns-clause-place : goal.returns-clause-place
-returns-clause-place g c = seal-end c.args.h.now.events c.loop-rest.rest c.args.t c.loop-rest-test.false ∙ c.loop-rest.invariant.1.1
+returns-clause-place g c = seal-end c.args.h.now.events c.loop-rest.rest c.args.t c.loop-rest-test.false
+    ∙ c.loop-rest.invariant.1.1

@@ -13,14 +13,16 @@ returns-in_err-refuse-in-Err-Line g c =
     let input = c.args.input.items in
     let fault = c.in-Err-Line.fault in
     let refuses : Refuses input fault = search rules in
-    stops input (refusal_text fault) status.Refused (fault, refuses, refl) c.refuse.ensures c.in_err-refuse-in-Err-Line.was (search rules)
+    stops input (refusal_text fault) status.Refused (fault, refuses, refl) c.refuse.ensures
+    c.in_err-refuse-in-Err-Line.was (search rules)
 
 pub returns-in_err-replay-in-Ok : goal.returns-in_err-replay-in-Ok
 returns-in_err-replay-in-Ok g c =
     let input = c.args.input.items in
     let w = c.in-Ok.workload in
     let spells : Spells input w = search rules in
-    stops input (text_of w (run_of w)) status.Ok (is_run input w spells) c.replay.ensures c.in_err-replay-in-Ok.was (search rules)
+    stops input (text_of w (run_of w)) status.Ok (is_run input w spells) c.replay.ensures c.in_err-replay-in-Ok.was
+    (search rules)
 
 pub returns-in_ok-replay-in-Ok : goal.returns-in_ok-replay-in-Ok
 returns-in_ok-replay-in-Ok g c =

@@ -16,6 +16,8 @@ returns-in_err-send g c =
     let w = c.args.workload in
     let core = c.in_ok-core.core in
     let ready : IsReady w core c.in_ok-core.facts c.in_ok-core.page = c.in_ok-core.ensures in
-    let same : text_of core.workload core.history ≡ text_of w (run_of w) = ap (λ (v : Workload). text_of v core.history) ready.workload ∙ ap (λ (h : List Event). text_of w h) ready.history in
+    let same : text_of core.workload core.history ≡ text_of w (run_of w) =
+    ap (λ (v : Workload). text_of v core.history) ready.workload
+    ∙ ap (λ (h : List Event). text_of w h) ready.history in
     let sent = subst (λ t. Sent told c.args.sink.now c.send.new.sink t c.send.result) same c.send.ensures in
     fails sent c.in_err-send.was (search rules)

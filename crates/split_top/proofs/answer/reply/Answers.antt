@@ -21,4 +21,5 @@ returns-in_err-refuse-in-Err-Long-clause-sink g c =
       enough = inr (long.2);
       answer = (fault, (refl, omega (arith, long.2)), refl);
     } in
-    replies_stop left left_now (refusal_text fault) status.Refused answer c.refuse.ensures c.in_err-refuse-in-Err-Long.was (search rules)
+    replies_stop left left_now (refusal_text fault) status.Refused answer c.refuse.ensures
+    c.in_err-refuse-in-Err-Long.was (search rules)

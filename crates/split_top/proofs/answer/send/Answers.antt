@@ -21,10 +21,14 @@ returns g c =
     let trace = trace_text w h in
     let report = report_text (facts_of w h) w.sched in
     let start = c.new-out.result in
-    let shown = ap (λ (f : Facts). report_text f c.workload-2.result.now.sched) c.requires.facts ∙ ap (λ (v : Workload). report_text (facts_of w h) v.sched) c.workload-2.ensures in
+    let shown = ap (λ (f : Facts). report_text f c.workload-2.result.now.sched) c.requires.facts
+    ∙ ap (λ (v : Workload). report_text (facts_of w h) v.sched) c.workload-2.ensures in
     let both = and_then (in_all trace c.put_trace.ensures (cc)) (in_all report c.put_report.ensures shown) in
-    let at_first = subst (λ rest. DueAt told start (trace ++ report) start rest) (sym (append-nil (trace ++ report))) (c.new-out.ensures.due c.requires.page (trace ++ report)) in
+    let at_first = subst (λ rest. DueAt told start (trace ++ report) start rest) (sym (append-nil (trace ++ report)))
+    (c.new-out.ensures.due c.requires.page (trace ++ report)) in
     let ended = c.finish.ensures start (trace ++ report) (both.printed start (trace ++ report) [] at_first) in
     let same : c.finish.new.self.sink.ghost_name ≡ start.sink.ghost_name = ended.0 in
-    let sent : Sent told c.args.sink.now c.finish.new.self.sink.now (trace ++ report) c.finish.result = subst (λ before. Sent told before c.finish.new.self.sink.now (trace ++ report) c.finish.result) c.new-out.ensures.sink ended.1 in
+    let sent : Sent told c.args.sink.now c.finish.new.self.sink.now (trace ++ report) c.finish.result =
+    subst (λ before. Sent told before c.finish.new.self.sink.now (trace ++ report) c.finish.result)
+    c.new-out.ensures.sink ended.1 in
     subst (λ after. Sent told c.args.sink.now after (trace ++ report) c.finish.result) (search rules) sent

@@ -5,10 +5,12 @@ pub returns-in_err-k : goal.returns-in_err-k
 returns-in_err-k c = rw c.from_residual.ensures (λ most adds. done_unread _ adds c.in_err-k.ensures)
 
 pub returns-in_err-id : goal.returns-in_err-id
-returns-in_err-id c = rw c.from_residual-in_err-id.ensures (λ most adds. done_unnamed _ _ _ adds c.in_ok-k.ensures.1 c.in_err-id.ensures)
+returns-in_err-id c = rw c.from_residual-in_err-id.ensures (λ most adds.
+    done_unnamed _ _ _ adds c.in_ok-k.ensures.1 c.in_err-id.ensures)
 
 pub returns-in_err-ok : goal.returns-in_err-ok
-returns-in_err-ok c = rw c.from_residual-in_err-ok.ensures (λ most adds. done_unfinished _ _ _ _ _ adds c.in_ok-k.ensures.1 c.in_ok-id.ensures.1 (λ ok rest. c.in_err-ok.ensures ok rest tt))
+returns-in_err-ok c = rw c.from_residual-in_err-ok.ensures (λ most adds.
+    done_unfinished _ _ _ _ _ adds c.in_ok-k.ensures.1 c.in_ok-id.ensures.1 (λ ok rest. c.in_err-ok.ensures ok rest tt))
 
 pub returns : goal.returns
 returns c = λ most adds.

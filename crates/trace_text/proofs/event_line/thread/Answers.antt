@@ -2,7 +2,8 @@ use Rattle.trace_text.proofs.TailLaws.{thread_unread, thread_read}
 use Rattle.trace_text.proofs.event_line.thread.Goals as goal
 
 pub returns-in_err-n : goal.returns-in_err-n
-returns-in_err-n c = rw c.from_residual.ensures (λ most adds. thread_unread c.args.row _ adds (rw (c.count.ensures.value, c.is_wide.ensures) at c.in_err-n.ensures))
+returns-in_err-n c = rw c.from_residual.ensures (λ most adds.
+    thread_unread c.args.row _ adds (rw (c.count.ensures.value, c.is_wide.ensures) at c.in_err-n.ensures))
 
 pub returns : goal.returns
 returns c = λ most adds.

@@ -16,4 +16,5 @@ loop-i-preserved c =
     record { read = smalls_more found.0 _ _ _ _ c.loop-i.invariant.read (omega arith) found.1 found.2 found.3 both }
 
 pub returns-in_err-value : goal.returns-in_err-value
-returns-in_err-value c = rw c.from_residual.ensures (λ ns rest number ends e. smalls_stop c.loop-i.invariant.read c.in_err-value.ensures ns rest (omega arith) ends e)
+returns-in_err-value c = rw c.from_residual.ensures (λ ns rest number ends e.
+    smalls_stop c.loop-i.invariant.read c.in_err-value.ensures ns rest (omega arith) ends e)

@@ -16,11 +16,17 @@ loop-i-preserved c =
     let found = c.in-Ok.ensures in
     let pushed = c.in_ok-push-in-Ok.ensures.ok in
     record {
-      read = events_more c.push.new.self c.in-Ok.event _ c.loop-i.invariant.read pushed c.loop-i.invariant.adds_are found;
-      adds_are = adds_more _ _ c.push.new.self c.in-Ok.event c.loop-i.invariant.adds_are pushed c.added-adds.ensures.adds;
+      read = events_more c.push.new.self c.in-Ok.event _ c.loop-i.invariant.read pushed c.loop-i.invariant.adds_are
+          found;
+      adds_are = adds_more _ _ c.push.new.self c.in-Ok.event c.loop-i.invariant.adds_are pushed
+          c.added-adds.ensures.adds;
       few = omega (arith, c.added-adds.ensures.few);
       room = omega (arith, event_some _ c.in-Ok.event _ found.1);
     }
 
 pub returns-in-Err : goal.returns-in-Err
-returns-in-Err c = rw c.refused.ensures (c.loop-i.i, refl, event_stops c.in-Err.cause c.loop-i.invariant.read (omega arith) c.loop-i.invariant.adds_are c.in-Err.ensures)
+returns-in-Err c = rw c.refused.ensures (
+  c.loop-i.i,
+  refl,
+  event_stops c.in-Err.cause c.loop-i.invariant.read (omega arith) c.loop-i.invariant.adds_are c.in-Err.ensures,
+)

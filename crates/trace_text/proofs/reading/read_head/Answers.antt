@@ -6,7 +6,9 @@ pub returns-in-Err : goal.returns-in-Err
 returns-in-Err c = rw c.refused.ensures (first_refused refl c.in-Err.ensures)
 
 pub returns-then-is_mispaired : goal.returns-then-is_mispaired
-returns-then-is_mispaired c = rw c.refused-then-is_mispaired.ensures (version_refused c.in-Ok.version c.in-Ok.body.now refl refl c.in-Ok.ensures (rw c.if-is_mispaired.true at c.is_mispaired.ensures))
+returns-then-is_mispaired c = rw c.refused-then-is_mispaired.ensures
+    (version_refused c.in-Ok.version c.in-Ok.body.now refl refl c.in-Ok.ensures
+    (rw c.if-is_mispaired.true at c.is_mispaired.ensures))
 
 pub returns-else-is_mispaired : goal.returns-else-is_mispaired
 returns-else-is_mispaired c = record {

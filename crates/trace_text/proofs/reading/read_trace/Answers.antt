@@ -21,20 +21,31 @@ returns-in_err-w c =
     rw (p.1, p.2) (front_fails _ c.if-text-gt268435456.false c.in_ok-body.ensures c.in_err-w.ensures)
 
 pub read_body-requires : goal.read_body-requires
-read_body-requires c = omega (arith, head_some c.in_ok-body.ensures, front_some c.in_ok-w.ensures.2, c.in_ok-w.ensures.1, c.if-text-gt268435456.false)
+read_body-requires c = omega (
+  arith,
+  head_some c.in_ok-body.ensures,
+  front_some c.in_ok-w.ensures.2,
+  c.in_ok-w.ensures.1,
+  c.if-text-gt268435456.false,
+)
 
 pub returns-in_err-events : goal.returns-in_err-events
 returns-in_err-events c =
     let p = err_from_is_err_and c.from_residual-in_err-events.result c.from_residual-in_err-events.ensures.1 in
     let front = c.in_ok-w.ensures in
-    rw (p.1, p.2) (body_fails _ c.if-text-gt268435456.false c.in_ok-body.ensures front.2 front.1 _ c.most_processes.ensures c.in_err-events.ensures)
+    rw (p.1, p.2) (body_fails _ c.if-text-gt268435456.false c.in_ok-body.ensures front.2 front.1 _
+    c.most_processes.ensures c.in_err-events.ensures)
 
 pub returns-then-body-last-gt16777216 : goal.returns-then-body-last-gt16777216
 returns-then-body-last-gt16777216 c =
     let body = rw c.most_processes.ensures at c.in_ok-events.ensures in
-    rw c.refused-then-body-last-gt16777216.ensures (refl, inr (long_inside c.in_ok-body.ensures c.in_ok-w.ensures.2 body c.if-body-last-gt16777216.true))
+    rw c.refused-then-body-last-gt16777216.ensures (
+      refl,
+      inr (long_inside c.in_ok-body.ensures c.in_ok-w.ensures.2 body c.if-body-last-gt16777216.true),
+    )
 
 pub returns : goal.returns
 returns c =
     let body = rw c.most_processes.ensures at c.in_ok-events.ensures in
-    spells_trace _ c.if-text-gt268435456.false c.in_ok-body.ensures c.in_ok-w.ensures.2 body c.if-body-last-gt16777216.false refl
+    spells_trace _ c.if-text-gt268435456.false c.in_ok-body.ensures c.in_ok-w.ensures.2 body
+    c.if-body-last-gt16777216.false refl

@@ -14,5 +14,6 @@ loop-i-preserved g c =
     let there : slice_get events i ≡ Some e = slice_get-reverse c.args.h.now.events i ∙ c.at.ensures.event in
     record {
       end = c.loop-i.invariant.end;
-      added = puts_item event_words events i e (slice_get_within events i e there) (sym (get_or_from_slice_get events i e e there)) c.loop-i.invariant.added c.put_event.ensures;
+      added = puts_item event_words events i e (slice_get_within events i e there)
+          (sym (get_or_from_slice_get events i e e there)) c.loop-i.invariant.added c.put_event.ensures;
     }

@@ -6,7 +6,8 @@ use Rattle.delayed_alloc.proofs.alloc.Alloc.new.Goals as goal
 
 pub loop-block-preserved : goal.loop-block-preserved
 loop-block-preserved c = record {
-  bits = λ k. c.insert.ensures.set k ∙ rw (c.loop-block.invariant.bits k) (range-more (526 + c.args.used) c.loop-block.block k c.loop-block.auto.block);
+  bits = λ k. c.insert.ensures.set k ∙ rw (c.loop-block.invariant.bits k)
+      (range-more (526 + c.args.used) c.loop-block.block k c.loop-block.auto.block);
   len = c.insert.ensures.len ∙ c.loop-block.invariant.len;
 }
 
@@ -14,10 +15,20 @@ pub invariant_of-result : goal.invariant_of-result
 invariant_of-result c =
     let words = c.loop-block.free.words in
     let device = c.args.device in
-    let end : c.loop-block.block ≡ device = omega (arith, c.loop-block.auto.block-end, c.loop-block-test.false, c.requires) in
+    let end : c.loop-block.block ≡ device = omega (
+      arith,
+      c.loop-block.auto.block-end,
+      c.loop-block-test.false,
+      c.requires,
+    ) in
     let bits : (k : ℕ) → is_set words.items k ≡ (nat_le (526 + c.args.used) k && nat_lt k device) =
     λ k. c.loop-block.invariant.bits k ∙ ap (λ b. nat_le (526 + c.args.used) k && nat_lt k b) end in
-    let room : device ≤ 64 * length words.items = omega (arith, words.ok.0, c.loop-block.invariant.len, c.in_ok-free.ensures.room) in
+    let room : device ≤ 64 * length words.items = omega (
+      arith,
+      words.ok.0,
+      c.loop-block.invariant.len,
+      c.in_ok-free.ensures.room,
+    ) in
     let few : device < 2 ^ 32 = omega arith in
     let unused : device - 526 - c.args.used ≡ device - (526 + c.args.used) = omega arith in
     rw (c.in_ok-new.ensures, unused) (held-started words.items device (526 + c.args.used) c.requires few room bits)
@@ -26,7 +37,12 @@ pub returns : goal.returns
 returns c =
     let words = c.loop-block.free.words in
     let device = c.args.device in
-    let end : c.loop-block.block ≡ device = omega (arith, c.loop-block.auto.block-end, c.loop-block-test.false, c.requires) in
+    let end : c.loop-block.block ≡ device = omega (
+      arith,
+      c.loop-block.auto.block-end,
+      c.loop-block-test.false,
+      c.requires,
+    ) in
     let bits : (k : ℕ) → is_set words.items k ≡ (nat_le (526 + c.args.used) k && nat_lt k device) =
     λ k. c.loop-block.invariant.bits k ∙ ap (λ b. nat_le (526 + c.args.used) k && nat_lt k b) end in
     rw c.in_ok-new.ensures (states-started words.items device (526 + c.args.used) c.requires bits)

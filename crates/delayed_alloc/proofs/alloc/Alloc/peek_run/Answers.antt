@@ -14,5 +14,6 @@ pub returns : goal.returns
 returns c =
     let i = c.self.inside in
     rw (← c.self.view_is)
-    (least_run i.free.words.items i.waiting i.unused i.reserved c.args.n c.unwrap-first.result c.run-m.result c.self.invariant c.requires.some
+    (least_run i.free.words.items i.waiting i.unused i.reserved c.args.n c.unwrap-first.result c.run-m.result
+    c.self.invariant c.requires.some
     (rw c.unwrap-first.ensures at c.first.ensures.first) c.run-m.ensures.most c.run-m.ensures.run c.run-m.ensures.ends)

@@ -11,17 +11,28 @@ overflow_add-self c =
     let i = c.loop-block.self-inside in
     let waits = set i.waiting c.in-Some.block None in
     let words = c.insert.new.self.words in
-    let len : length words.items ≡ length i.free.words.items = omega (arith, words.ok.0, i.free.words.ok.0, c.insert.ensures.len) in
-    let held = held-freed i.free.words.items words.items i.waiting i.unused i.reserved c.in-Some.block (record { 0 = c.args.t }) c.loop-block.invariant.held len c.in-Some.ensures.place c.insert.ensures.set in
-    omega (arith, held.counted, held.few, count_by-le-length is_free (states_of words.items waits), length-states_of words.items waits)
+    let len : length words.items ≡ length i.free.words.items =
+    omega (arith, words.ok.0, i.free.words.ok.0, c.insert.ensures.len) in
+    let held = held-freed i.free.words.items words.items i.waiting i.unused i.reserved c.in-Some.block
+    (record { 0 = c.args.t }) c.loop-block.invariant.held len c.in-Some.ensures.place c.insert.ensures.set in
+    omega (
+      arith,
+      held.counted,
+      held.few,
+      count_by-le-length is_free (states_of words.items waits),
+      length-states_of words.items waits,
+    )
 
 pub loop-block-preserved : goal.loop-block-preserved
 loop-block-preserved c =
     let i = c.loop-block.self-inside in
     let words = c.insert.new.self.words in
-    let len : length words.items ≡ length i.free.words.items = omega (arith, words.ok.0, i.free.words.ok.0, c.insert.ensures.len) in
-    let held = held-freed i.free.words.items words.items i.waiting i.unused i.reserved c.in-Some.block (record { 0 = c.args.t }) c.loop-block.invariant.held len c.in-Some.ensures.place c.insert.ensures.set in
-    let same = settled-freed i.free.words.items words.items i.waiting i.unused i.reserved c.in-Some.block c.args.t c.loop-block.invariant.held c.in-Some.ensures.place c.insert.ensures.set in
+    let len : length words.items ≡ length i.free.words.items =
+    omega (arith, words.ok.0, i.free.words.ok.0, c.insert.ensures.len) in
+    let held = held-freed i.free.words.items words.items i.waiting i.unused i.reserved c.in-Some.block
+    (record { 0 = c.args.t }) c.loop-block.invariant.held len c.in-Some.ensures.place c.insert.ensures.set in
+    let same = settled-freed i.free.words.items words.items i.waiting i.unused i.reserved c.in-Some.block c.args.t
+    c.loop-block.invariant.held c.in-Some.ensures.place c.insert.ensures.set in
     rw c.in-Some.ensures.rest
     (record { held = held; states = same ∙ c.loop-block.invariant.states; reserved = c.loop-block.invariant.reserved })
 

@@ -7,7 +7,8 @@ use Rattle.delayed_alloc.proofs.alloc.Alloc.settle.Given as goal
 abbrev pub invariant-loop-block : goal.invariant-loop-block
 invariant-loop-block l = record {
   held : AreHeld l.self-inside.free.words.items l.self-inside.waiting l.self-inside.unused l.self-inside.reserved;
-  states : map (settled l.t) (states_of l.self-inside.free.words.items l.self-inside.waiting) ≡ map (settled l.t) l.fn.self.states;
+  states : map (settled l.t) (states_of l.self-inside.free.words.items l.self-inside.waiting)
+      ≡ map (settled l.t) l.fn.self.states;
   reserved : l.self-inside.reserved ≡ l.fn.self.reserved;
 }
 

@@ -7,7 +7,8 @@ pub remove_run-requires-clause-within : goal.remove_run-requires-clause-within
 remove_run-requires-clause-within c =
     let i = c.self.inside in
     let run = rw (← c.self.view_is) at c.peek_run-first.ensures in
-    let within = run-within i.free.words.items i.waiting i.unused i.reserved c.args.n c.peek_run-first.result.0 c.peek_run-first.result.1 c.self.invariant run in
+    let within = run-within i.free.words.items i.waiting i.unused i.reserved c.args.n c.peek_run-first.result.0
+    c.peek_run-first.result.1 c.self.invariant run in
     omega (arith, within, c.self.invariant.room, i.free.words.ok.0)
 
 pub invariant_of-self : goal.invariant_of-self
@@ -16,8 +17,10 @@ invariant_of-self c =
     let words = c.remove_run.new.self.words in
     let run = rw (← c.self.view_is) at c.peek_run-first.ensures in
     let reserved : i.reserved ≡ c.args.self.now.reserved = ap (λ (a : Blocks). a.reserved) c.self.view_is in
-    let len : length words.items ≡ length i.free.words.items = omega (arith, words.ok.0, i.free.words.ok.0, c.remove_run.ensures.len) in
-    held-taken i.free.words.items words.items i.waiting i.unused i.reserved c.args.n c.peek_run-first.result.0 c.peek_run-first.result.1 c.self.invariant run
+    let len : length words.items ≡ length i.free.words.items =
+    omega (arith, words.ok.0, i.free.words.ok.0, c.remove_run.ensures.len) in
+    held-taken i.free.words.items words.items i.waiting i.unused i.reserved c.args.n c.peek_run-first.result.0
+    c.peek_run-first.result.1 c.self.invariant run
     (rw reserved c.requires.promised) len c.remove_run.ensures.run c.remove_run.ensures.others
 
 pub returns-clause-taken : goal.returns-clause-taken
@@ -26,7 +29,9 @@ returns-clause-taken c =
     let words = c.remove_run.new.self.words in
     let run = rw (← c.self.view_is) at c.peek_run-first.ensures in
     let reserved : i.reserved ≡ c.args.self.now.reserved = ap (λ (a : Blocks). a.reserved) c.self.view_is in
-    let len : length words.items ≡ length i.free.words.items = omega (arith, words.ok.0, i.free.words.ok.0, c.remove_run.ensures.len) in
+    let len : length words.items ≡ length i.free.words.items =
+    omega (arith, words.ok.0, i.free.words.ok.0, c.remove_run.ensures.len) in
     rw (← c.self.view_is)
-    (takes_run i.free.words.items words.items i.waiting i.unused i.reserved c.args.n c.peek_run-first.result.0 c.peek_run-first.result.1 c.self.invariant run
+    (takes_run i.free.words.items words.items i.waiting i.unused i.reserved c.args.n c.peek_run-first.result.0
+    c.peek_run-first.result.1 c.self.invariant run
     (rw reserved c.requires.promised) len c.remove_run.ensures.run c.remove_run.ensures.others)

@@ -9,7 +9,8 @@ pub returns-clause-within : goal.returns-clause-within
 returns-clause-within c =
     let nexts = c.self.inside.nexts.items in
     let next : c.index.result.now ≡ get_or nexts c.args.at None = grind (arith, common_steps) in
-    let inside : IfSome (get_or nexts c.args.at None) (λ q. q < length nexts) = rises-within nexts c.self.invariant.rises c.args.at in
+    let inside : IfSome (get_or nexts c.args.at None) (λ q. q < length nexts) =
+    rises-within nexts c.self.invariant.rises c.args.at in
     rw (c.as_index.ensures, next, ← c.self.view_is, ← c.self.invariant.nexts_len) inside
 
 pub returns-clause-next : goal.returns-clause-next

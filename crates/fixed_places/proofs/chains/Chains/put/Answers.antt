@@ -16,7 +16,8 @@ invariant_of-self c =
     let inside : chain < length heads = rw (ap (λ v. v.count) c.self.view_is) c.requires.chain in
     let test : ℕ → Bool = is_in chain places in
     let first : c.index.result.now ≡ get_or heads chain None = grind (arith, common_steps) in
-    let is_chain : IsChain test c.index.result.now c.deref.result.now = rw (first, c.deref.ensures.value) (chains.chains chain inside) in
+    let is_chain : IsChain test c.index.result.now c.deref.result.now =
+    rw (first, c.deref.ensures.value) (chains.chains chain inside) in
     let is_last : IsLast test at last = c.last_below-last.ensures.last test is_chain in
     let last_in : IfSome last (λ l. l < length nexts) = rw (← c.deref.ensures.value) c.last_below-last.ensures.within in
     let next : c.next_of.result ≡ next_of last (get_or heads chain None) nexts =

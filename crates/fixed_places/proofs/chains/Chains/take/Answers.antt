@@ -31,7 +31,8 @@ invariant_of-self c =
     let test : ℕ → Bool = is_in chain places in
     let place : at < length places = some-within places at (rw (ap (λ v. v.places) c.self.view_is) c.requires) in
     let first : c.index-2.result.now ≡ get_or heads chain None = grind (arith, common_steps) in
-    let is_chain : IsChain test c.index-2.result.now c.deref.result.now = rw (first, c.deref.ensures.value) (chains.chains chain inside) in
+    let is_chain : IsChain test c.index-2.result.now c.deref.result.now =
+    rw (first, c.deref.ensures.value) (chains.chains chain inside) in
     let is_last : IsLast test at last = c.last_below-last.ensures.last test is_chain in
     let last_in : IfSome last (λ l. l < length nexts) = rw (← c.deref.ensures.value) c.last_below-last.ensures.within in
     let next : c.index-next.result.now ≡ get_or nexts at None = grind (arith, common_steps) in

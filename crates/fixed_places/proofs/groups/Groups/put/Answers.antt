@@ -8,7 +8,8 @@ invariant_of-self g c =
     let keys = c.self.inside.keys.items in
     let place : c.map.result ≡ c.lift-top.result = search rules in
     let lifted = c.lift-top.ensures in
-    let covered = covers keys c.self.inside.tops c.lift-top.new.tops c.self.inside.below.items c.args.key c.lift-top.result c.self.invariant lifted in
+    let covered = covers keys c.self.inside.tops c.lift-top.new.tops c.self.inside.below.items c.args.key
+    c.lift-top.result c.self.invariant lifted in
     let within : c.args.at < length keys = grind (arith, common_steps) in
     rw (c.put.ensures, place)
     (put_on keys c.self.inside.tops c.lift-top.new.tops c.self.inside.below.items c.args.at c.args.key c.lift-top.result

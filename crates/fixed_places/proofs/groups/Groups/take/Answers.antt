@@ -7,26 +7,32 @@ pub put-requires-clause-place : goal.put-requires-clause-place
 put-requires-clause-place g c =
     let i = c.self.inside in
     let lifted = c.in_ok-at.ensures in
-    let within = at_within i.keys.items i.tops c.lift.new.tops i.below.items c.in_ok-at.at c.args.key.now c.self.invariant lifted in
+    let within = at_within i.keys.items i.tops c.lift.new.tops i.below.items c.in_ok-at.at c.args.key.now
+    c.self.invariant lifted in
     let len = c.self.invariant.below_len in
     let leads : get_or i.below.items c.in_ok-at.at None ≡ Some c.in-Some.next = grind (arith, common_steps) in
-    next-within i.keys.items i.tops c.lift.new.tops i.below.items c.in_ok-at.at c.args.key.now c.self.invariant lifted c.in-Some.next leads
+    next-within i.keys.items i.tops c.lift.new.tops i.below.items c.in_ok-at.at c.args.key.now c.self.invariant lifted
+    c.in-Some.next leads
 
 pub invariant_of-self-in-Some : goal.invariant_of-self-in-Some
 invariant_of-self-in-Some g c =
     let i = c.self.inside in
     let lifted = c.in_ok-at.ensures in
-    let within = at_within i.keys.items i.tops c.lift.new.tops i.below.items c.in_ok-at.at c.args.key.now c.self.invariant lifted in
+    let within = at_within i.keys.items i.tops c.lift.new.tops i.below.items c.in_ok-at.at c.args.key.now
+    c.self.invariant lifted in
     let len = c.self.invariant.below_len in
     let leads : get_or i.below.items c.in_ok-at.at None ≡ Some c.in-Some.next = grind (arith, common_steps) in
     rw c.put.ensures
-    (take_off i.keys.items i.tops c.lift.new.tops i.below.items c.in_ok-at.at c.args.key.now c.self.invariant lifted c.in-Some.next leads)
+    (take_off i.keys.items i.tops c.lift.new.tops i.below.items c.in_ok-at.at c.args.key.now c.self.invariant lifted
+    c.in-Some.next leads)
 
 pub invariant_of-self-in_default : goal.invariant_of-self-in_default
 invariant_of-self-in_default g c =
     let i = c.self.inside in
     let lifted = c.in_ok-at.ensures in
-    let within = at_within i.keys.items i.tops c.lift.new.tops i.below.items c.in_ok-at.at c.args.key.now c.self.invariant lifted in
+    let within = at_within i.keys.items i.tops c.lift.new.tops i.below.items c.in_ok-at.at c.args.key.now
+    c.self.invariant lifted in
     let len = c.self.invariant.below_len in
     let leads : get_or i.below.items c.in_ok-at.at None ≡ None = grind (arith, common_steps) in
-    take_last i.keys.items i.tops c.lift.new.tops i.below.items c.in_ok-at.at c.args.key.now c.self.invariant lifted leads
+    take_last i.keys.items i.tops c.lift.new.tops i.below.items c.in_ok-at.at c.args.key.now c.self.invariant lifted
+    leads

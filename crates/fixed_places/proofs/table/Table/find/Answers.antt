@@ -22,9 +22,11 @@ loop-next-preserved g c =
     let code = g.K.Key.code_of in
     let key = c.args.key.now in
     let at = c.in-Some.at in
-    let sought : IsSought code c.self.inside.chains.places keys key (Some at) = rw (c.self.view_is, ← c.in-Some.is) c.loop-next.invariant in
+    let sought : IsSought code c.self.inside.chains.places keys key (Some at) =
+    rw (c.self.view_is, ← c.in-Some.is) c.loop-next.invariant in
     let read : c.index.result.now ≡ get_or keys at None = grind (arith, common_steps) in
     let other : get_or keys at None ≢ Some key = λ e. let h = c.if-holds.ensures.1 (read ∙ e) in cc in
     rw (← c.self.view_is)
-    (sought-more code c.self.inside.chains keys key at c.next-next.result c.self.invariant sought other c.next-next.ensures.within
+    (sought-more code c.self.inside.chains keys key at c.next-next.result c.self.invariant sought other
+    c.next-next.ensures.within
     (c.next-next.ensures.next (chain_of (length keys) (code key)) sought.linked))

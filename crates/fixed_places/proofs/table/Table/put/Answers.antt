@@ -16,4 +16,5 @@ invariant_of-self g c =
     let place : at < length keys = rw c.self.view_is c.requires.place in
     let absent : IsAbsent keys key = rw c.self.view_is c.requires.absent in
     rw (c.put.ensures, chain)
-    (table-set code c.self.inside.chains keys at (Some key) c.self.invariant (put-only code keys at key place absent c.self.invariant.only))
+    (table-set code c.self.inside.chains keys at (Some key) c.self.invariant
+    (put-only code keys at key place absent c.self.invariant.only))

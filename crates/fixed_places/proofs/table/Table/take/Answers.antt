@@ -10,4 +10,5 @@ invariant_of-self g c =
     let code = g.K.Key.code_of in
     let place : at < length keys = some-within keys at (rw c.self.view_is c.requires) in
     rw c.take.ensures
-    (table-set code c.self.inside.chains keys at None c.self.invariant (taken-only code keys at place c.self.invariant.only))
+    (table-set code c.self.inside.chains keys at None c.self.invariant
+    (taken-only code keys at place c.self.invariant.only))

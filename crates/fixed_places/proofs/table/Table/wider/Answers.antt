@@ -12,7 +12,8 @@ put-requires-clause-absent g c = λ i h.
     let so_far : c.loop-at.wider ≡ front keys c.args.places at = c.loop-at.invariant in
     let read = front-read keys c.args.places at i c.in-Some.key c.loop-at-test.true (rw so_far at h) in
     let here : get_or keys at None ≡ Some c.in-Some.key = grind (arith, common_steps) in
-    let same : i ≡ at = c.self.invariant.only i at c.in-Some.key (rw (← c.as_slice-keys.ensures.value) read.1) (rw (← c.as_slice-keys.ensures.value) here) in
+    let same : i ≡ at = c.self.invariant.only i at c.in-Some.key (rw (← c.as_slice-keys.ensures.value) read.1)
+    (rw (← c.as_slice-keys.ensures.value) here) in
     let before : i < at = read.0 in
     absurd (omega arith)
 
@@ -26,7 +27,8 @@ loop-at-preserved g c =
     elim c.match-held.branch [
       | in-Some w ↦
           let here : get_or keys at None ≡ Some w.in-Some.key = grind (arith, common_steps, w.in-Some.is) in
-          rw w.wider-is (w.put.ensures ∙ ap (λ held. set held at (Some w.in-Some.key)) so_far ∙ ap (λ x. set (front keys c.args.places at) at x) (sym here) ∙ more)
+          rw w.wider-is (w.put.ensures ∙ ap (λ held. set held at (Some w.in-Some.key)) so_far
+          ∙ ap (λ x. set (front keys c.args.places at) at x) (sym here) ∙ more)
       | in_default w ↦
           let here : get_or keys at None ≡ None = grind (arith, common_steps, w.in_default.is) in
           let empty = front-empty keys c.args.places at c.loop-at-test.true in

@@ -10,17 +10,20 @@ unwrap-requires g c = rw c.of.ensures (key-there c.args.b c.requires.page)
 
 pub enter-requires-clause-absent : goal.enter-requires-clause-absent
 enter-requires-clause-absent g c =
-    rw (c.in_ok-room.ensures.rest, key-buf c.args.b c.unwrap.result (sym c.of.ensures ∙ c.unwrap.ensures)) c.requires.absent
+    rw (c.in_ok-room.ensures.rest, key-buf c.args.b c.unwrap.result (sym c.of.ensures ∙ c.unwrap.ensures))
+    c.requires.absent
 
 pub enter-requires-clause-number : goal.enter-requires-clause-number
-enter-requires-clause-number g c = key-number c.args.b c.unwrap.result (sym c.of.ensures ∙ c.unwrap.ensures) c.requires.page
+enter-requires-clause-number g c = key-number c.args.b c.unwrap.result (sym c.of.ensures
+    ∙ c.unwrap.ensures) c.requires.page
 
 pub enter-requires-clause-free : goal.enter-requires-clause-free
 enter-requires-clause-free g c = rw c.in_ok-room.ensures.rest c.requires.free
 
 pub returns-clause-ok : goal.returns-clause-ok
 returns-clause-ok g c =
-    begins c.args.self.now c.room.new.self c.enter.new.self c.args.b c.args.by c.unwrap.result c.enter.result c.in_ok-room.ensures.rest
+    begins c.args.self.now c.room.new.self c.enter.new.self c.args.b c.args.by c.unwrap.result c.enter.result
+    c.in_ok-room.ensures.rest
     (sym c.of.ensures ∙ c.unwrap.ensures) c.requires.absent c.enter.ensures
 
 pub returns-clause-spare : goal.returns-clause-spare

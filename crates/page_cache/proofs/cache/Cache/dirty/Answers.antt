@@ -19,7 +19,11 @@ pub let_go-requires : goal.let_go-requires
 let_go-requires g c =
     record {
       live = λ n.
-          rw (← use_in-same g.S.TagStore.number c.change-old.result n, c.change-old.ensures.tag, ← c.in-Some.ensures.some.slot.page) (c.requires.live n);
+          rw (
+            ← use_in-same g.S.TagStore.number c.change-old.result n,
+            c.change-old.ensures.tag,
+            ← c.in-Some.ensures.some.slot.page,
+          ) (c.requires.live n);
     }
 
 pub returns-in-Some-clause-slot : goal.returns-in-Some-clause-slot
@@ -29,20 +33,30 @@ pub returns-in-Some-clause-places : goal.returns-in-Some-clause-places
 returns-in-Some-clause-places g c =
     let page = c.page.result.now in
     let number = g.S.TagStore.number in
-    let p : Held = record { key = page.key; bytes = page.bytes.items; tag = option_map number page.tag; state = page.state } in
-    dirties-held c.args.self.now c.change-old.new.self c.args.b c.in-Some.at (number c.args.tag) p c.in-Some.ensures.some c.page.ensures.page
+    let p : Held = record {
+      key = page.key;
+      bytes = page.bytes.items;
+      tag = option_map number page.tag;
+      state =
+          page.state;
+    } in
+    dirties-held c.args.self.now c.change-old.new.self c.args.b c.in-Some.at (number c.args.tag) p
+    c.in-Some.ensures.some c.page.ensures.page
     c.change-old.ensures.rest
 
 pub returns-in-Some-clause-spare : goal.returns-in-Some-clause-spare
-returns-in-Some-clause-spare g c = let spent = ap (λ (v : Cached). v.spare) c.change-old.ensures.rest in omega (arith, spent)
+returns-in-Some-clause-spare g c = let spent = ap (λ (v : Cached). v.spare) c.change-old.ensures.rest in
+    omega (arith, spent)
 
 pub returns-in-Some-clause-moved : goal.returns-in-Some-clause-moved
 returns-in-Some-clause-moved g c =
     let store = g.S.TagStore.now in
     let number = g.S.TagStore.number in
     let old = c.change-old.result in
-    moved-as (store c.args.tags.now) (store c.let_go.new.tags) (use_in number old) no_use (use_in same (tag_in (page_of c.args.self.now c.args.b))) no_use
-    c.let_go.ensures.moved (λ n. rw (c.in-Some.ensures.some.slot.page, ← c.change-old.ensures.tag) (use_in-same number old n)) (λ n. refl)
+    moved-as (store c.args.tags.now) (store c.let_go.new.tags) (use_in number old) no_use
+    (use_in same (tag_in (page_of c.args.self.now c.args.b))) no_use
+    c.let_go.ensures.moved (λ n. rw (c.in-Some.ensures.some.slot.page, ← c.change-old.ensures.tag)
+    (use_in-same number old n)) (λ n. refl)
 
 pub unwrap-requires : goal.unwrap-requires
 unwrap-requires g c = rw c.of.ensures (key-there c.args.b c.requires.page)
@@ -52,25 +66,30 @@ enter-at-requires-clause-absent g c =
     rw (key-buf c.args.b c.unwrap.result (sym c.of.ensures ∙ c.unwrap.ensures)) c.in_default.ensures.none
 
 pub enter-at-requires-clause-number : goal.enter-at-requires-clause-number
-enter-at-requires-clause-number g c = key-number c.args.b c.unwrap.result (sym c.of.ensures ∙ c.unwrap.ensures) c.requires.page
+enter-at-requires-clause-number g c = key-number c.args.b c.unwrap.result (sym c.of.ensures
+    ∙ c.unwrap.ensures) c.requires.page
 
 pub enter-at-requires-clause-free : goal.enter-at-requires-clause-free
 enter-at-requires-clause-free g c = rw c.in_default.ensures.none at c.requires.place
 
 pub clear-requires : goal.clear-requires
 clear-requires g c =
-    entered-some c.args.self.now c.enter-at.new.self c.unwrap.result (Some (g.S.TagStore.number c.args.tag)) c.new.result c.enter-at.result
+    entered-some c.args.self.now c.enter-at.new.self c.unwrap.result (Some (g.S.TagStore.number c.args.tag))
+    c.new.result c.enter-at.result
     c.enter-at.ensures
 
 pub returns-clause-slot : goal.returns-clause-slot
 returns-clause-slot g c =
     rw c.in_default.ensures.none
-    (slot-free c.args.b c.args.self.now.places c.enter-at.result c.enter-at.ensures.within c.enter-at.ensures.empty c.in_default.ensures.none)
+    (slot-free c.args.b c.args.self.now.places c.enter-at.result c.enter-at.ensures.within c.enter-at.ensures.empty
+    c.in_default.ensures.none)
 
 pub returns-clause-places : goal.returns-clause-places
 returns-clause-places g c =
-    dirties-new c.args.self.now c.enter-at.new.self c.clear.new.self c.args.b c.enter-at.result (g.S.TagStore.number c.args.tag) c.unwrap.result
-    c.new.result (sym c.of.ensures ∙ c.unwrap.ensures) c.in_default.ensures.none c.new.ensures c.enter-at.ensures c.clear.ensures
+    dirties-new c.args.self.now c.enter-at.new.self c.clear.new.self c.args.b c.enter-at.result
+    (g.S.TagStore.number c.args.tag) c.unwrap.result
+    c.new.result (sym c.of.ensures ∙ c.unwrap.ensures) c.in_default.ensures.none c.new.ensures c.enter-at.ensures
+    c.clear.ensures
 
 pub returns-clause-spare : goal.returns-clause-spare
 returns-clause-spare g c =

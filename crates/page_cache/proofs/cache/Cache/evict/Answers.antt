@@ -11,18 +11,21 @@ unwrap-at-requires g c =
 
 pub leave-requires : goal.leave-requires
 leave-requires g c =
-    (some-at c.place_of.result c.unwrap-at.result (IsPlaced c.args.self.now.places c.args.b) c.unwrap-at.ensures c.place_of.ensures.some).held
+    (some-at c.place_of.result c.unwrap-at.result (IsPlaced c.args.self.now.places c.args.b) c.unwrap-at.ensures
+    c.place_of.ensures.some).held
 
 pub returns-clause-page : goal.returns-clause-page
 returns-clause-page g c =
     leaves c.args.self.now c.leave.new.self c.args.b c.unwrap-at.result
-    (some-at c.place_of.result c.unwrap-at.result (IsPlaced c.args.self.now.places c.args.b) c.unwrap-at.ensures c.place_of.ensures.some)
+    (some-at c.place_of.result c.unwrap-at.result (IsPlaced c.args.self.now.places c.args.b) c.unwrap-at.ensures
+    c.place_of.ensures.some)
     c.leave.ensures.rest
 
 pub returns-clause-touches : goal.returns-clause-touches
 returns-clause-touches g c =
     leaves-touches c.args.self.now c.leave.new.self c.args.b c.unwrap-at.result
-    (some-at c.place_of.result c.unwrap-at.result (IsPlaced c.args.self.now.places c.args.b) c.unwrap-at.ensures c.place_of.ensures.some)
+    (some-at c.place_of.result c.unwrap-at.result (IsPlaced c.args.self.now.places c.args.b) c.unwrap-at.ensures
+    c.place_of.ensures.some)
     c.leave.ensures.rest
 
 pub returns-clause-spare : goal.returns-clause-spare

@@ -14,23 +14,32 @@ returns-in_err-at-clause-none g c =
     let places = all_seen g.S.TagStore.number i.places.items in
     rw (← c.self.view_is)
     (none-anyway c.from_residual.result _
-    (λ b h. ready-none i.guide places (position_or_len (is_page b) places) c.self.invariant.guided c.in_err-at.ensures.none h))
+    (λ b h. ready-none i.guide places (position_or_len (is_page b) places) c.self.invariant.guided
+    c.in_err-at.ensures.none h))
 
 pub page-requires : goal.page-requires
 page-requires g c =
     let i = c.self.inside in
     let places = all_seen g.S.TagStore.number i.places.items in
     rw (← c.self.view_is)
-    (least-held (get_or places c.in_ok-at.at None) (least-ready i.guide places c.in_ok-at.at c.self.invariant.guided c.in_ok-at.ensures.first))
+    (least-held (get_or places c.in_ok-at.at None) (least-ready i.guide places c.in_ok-at.at c.self.invariant.guided
+    c.in_ok-at.ensures.first))
 
 pub returns-clause-first : goal.returns-clause-first
 returns-clause-first g c =
     let i = c.self.inside in
     let number = g.S.TagStore.number in
     let page = c.page.result.now in
-    let p : Held = record { key = page.key; bytes = page.bytes.items; tag = option_map number page.tag; state = page.state } in
+    let p : Held = record {
+      key = page.key;
+      bytes = page.bytes.items;
+      tag = option_map number page.tag;
+      state =
+          page.state;
+    } in
     let here : get_or (all_seen number i.places.items) c.in_ok-at.at None ≡ Some p =
     ap (λ (v : Cached). get_or v.places c.in_ok-at.at None) c.self.view_is ∙ c.page.ensures.page in
     rw (c.buf.ensures, ← c.self.view_is)
-    (first-ready (cached_of number i.limit i.spare i.places.items i.guide) i.guide c.in_ok-at.at p c.self.invariant.guided
+    (first-ready (cached_of number i.limit i.spare i.places.items i.guide) i.guide c.in_ok-at.at p
+    c.self.invariant.guided
     c.self.invariant.distinct c.in_ok-at.ensures.first here)

@@ -17,8 +17,10 @@ loop-page-preserved g c =
     let store = g.S.TagStore.now in
     let low : c.loop-page.page < 1008 = omega arith in
     record {
-      frees = frees-next (store c.args.tags.now) (store c.loop-page.tags) (store c.free_page.new.tags) c.args.self.now c.loop-page.self
-          c.free_page.new.self c.args.s c.loop-page.page c.loop-page.invariant.frees low c.free_page.ensures.numbers c.free_page.ensures.page
+      frees = frees-next (store c.args.tags.now) (store c.loop-page.tags) (store c.free_page.new.tags) c.args.self.now
+          c.loop-page.self
+          c.free_page.new.self c.args.s c.loop-page.page c.loop-page.invariant.frees low c.free_page.ensures.numbers
+          c.free_page.ensures.page
           c.free_page.ensures.touches c.free_page.ensures.spare c.free_page.ensures.causes c.free_page.ensures.moved;
       tags_spare = omega (arith, c.loop-page.invariant.tags_spare, c.free_page.ensures.tags_spare);
     }
@@ -27,4 +29,5 @@ pub returns-clause-pages : goal.returns-clause-pages
 returns-clause-pages g c =
     let all : c.loop-page.page ≡ 1008 = omega (arith, c.loop-page.auto.page-end) in
     let done = rw all at c.loop-page.invariant.frees in
-    frees-all (g.S.TagStore.now c.args.tags.now) (g.S.TagStore.now c.loop-page.tags) c.args.self.now c.loop-page.self c.args.s done
+    frees-all (g.S.TagStore.now c.args.tags.now) (g.S.TagStore.now c.loop-page.tags) c.args.self.now c.loop-page.self
+    c.args.s done

@@ -20,7 +20,8 @@ returns-clause-page g c =
 
 pub returns-clause-touches : goal.returns-clause-touches
 returns-clause-touches g c =
-    leaves-touches c.args.self.now c.leave-tag.new.self c.args.b c.in-Some.at c.in-Some.ensures.some c.leave-tag.ensures.rest
+    leaves-touches c.args.self.now c.leave-tag.new.self c.args.b c.in-Some.at c.in-Some.ensures.some
+    c.leave-tag.ensures.rest
 
 pub returns-clause-causes : goal.returns-clause-causes
 returns-clause-causes g c =
@@ -29,9 +30,11 @@ returns-clause-causes g c =
     let tag = c.leave-tag.result in
     let x = get_or c.args.self.now.places c.in-Some.at None in
     let went =
-    moved-as (store c.args.tags.now) (store c.let_go.new.tags) (use_in number tag) no_use (use_in same (tag_in x)) no_use c.let_go.ensures.moved
+    moved-as (store c.args.tags.now) (store c.let_go.new.tags) (use_in number tag) no_use (use_in same (tag_in x))
+    no_use c.let_go.ensures.moved
     (λ n. rw (← c.leave-tag.ensures.tag) (use_in-same number tag n)) (λ n. refl) in
-    gone-causes (store c.args.tags.now) (store c.let_go.new.tags) c.args.self.now c.leave-tag.new.self c.args.b c.in-Some.at
+    gone-causes (store c.args.tags.now) (store c.let_go.new.tags) c.args.self.now c.leave-tag.new.self c.args.b
+    c.in-Some.at
     c.in-Some.ensures.some c.leave-tag.ensures.rest went c.requires
 
 pub returns-clause-moved : goal.returns-clause-moved
@@ -41,7 +44,9 @@ returns-clause-moved g c =
     let tag = c.leave-tag.result in
     let x = get_or c.args.self.now.places c.in-Some.at None in
     let went =
-    moved-as (store c.args.tags.now) (store c.let_go.new.tags) (use_in number tag) no_use (use_in same (tag_in x)) no_use c.let_go.ensures.moved
+    moved-as (store c.args.tags.now) (store c.let_go.new.tags) (use_in number tag) no_use (use_in same (tag_in x))
+    no_use c.let_go.ensures.moved
     (λ n. rw (← c.leave-tag.ensures.tag) (use_in-same number tag n)) (λ n. refl) in
-    gone-held (store c.args.tags.now) (store c.let_go.new.tags) c.args.self.now c.leave-tag.new.self c.args.b c.in-Some.at
+    gone-held (store c.args.tags.now) (store c.let_go.new.tags) c.args.self.now c.leave-tag.new.self c.args.b
+    c.in-Some.at
     c.in-Some.ensures.some c.leave-tag.ensures.rest went c.requires

@@ -9,11 +9,13 @@ invariant_of-self g c =
     let i = c.self.inside in
     let here : get_or i.places.items c.args.at None ≡ Some c.unwrap-page.result = grind (arith, common_steps) in
     rw c.take.ensures.after
-    (keeps-left g.S.TagStore.number i.limit i.spare i.places.items i.guide i.pool c.args.at c.unwrap-page.result c.none.result c.mark.new.self
+    (keeps-left g.S.TagStore.number i.limit i.spare i.places.items i.guide i.pool c.args.at c.unwrap-page.result
+    c.none.result c.mark.new.self
     c.leave.new.self c.give.new.self c.self.invariant here c.none.ensures c.mark.ensures c.leave.ensures c.give.ensures)
 
 pub returns-clause-rest : goal.returns-clause-rest
 returns-clause-rest g c =
     let i = c.self.inside in
     let touches = ap (λ (v : Guided). v.touches) c.leave.ensures ∙ ap (λ (v : Guided). v.touches) c.mark.ensures in
-    rw (← c.self.view_is, c.take.ensures.after) (view-left g.S.TagStore.number i.limit i.spare i.places.items i.guide i.pool c.args.at c.leave.new.self touches)
+    rw (← c.self.view_is, c.take.ensures.after) (view-left g.S.TagStore.number i.limit i.spare i.places.items i.guide
+    i.pool c.args.at c.leave.new.self touches)

@@ -14,35 +14,59 @@ unwrap-at-requires g c =
 
 pub page-requires : goal.page-requires
 page-requires g c =
-    (some-at c.place_of.result c.unwrap-at.result (IsPlaced c.args.self.now.places c.args.b) c.unwrap-at.ensures c.place_of.ensures.some).held
+    (some-at c.place_of.result c.unwrap-at.result (IsPlaced c.args.self.now.places c.args.b) c.unwrap-at.ensures
+    c.place_of.ensures.some).held
 
 pub restate-requires : goal.restate-requires
 restate-requires g c =
-    (some-at c.place_of.result c.unwrap-at.result (IsPlaced c.args.self.now.places c.args.b) c.unwrap-at.ensures c.place_of.ensures.some).held
+    (some-at c.place_of.result c.unwrap-at.result (IsPlaced c.args.self.now.places c.args.b) c.unwrap-at.ensures
+    c.place_of.ensures.some).held
 
 pub returns-clause-page : goal.returns-clause-page
 returns-clause-page g c =
     let page = c.page.result.now in
-    let p : Held = record { key = page.key; bytes = page.bytes.items; tag = option_map g.S.TagStore.number page.tag; state = page.state } in
+    let p : Held = record {
+      key = page.key;
+      bytes = page.bytes.items;
+      tag = option_map g.S.TagStore.number page.tag;
+      state = page.state;
+    } in
     let placed =
-    some-at c.place_of.result c.unwrap-at.result (IsPlaced c.args.self.now.places c.args.b) c.unwrap-at.ensures c.place_of.ensures.some in
-    loaded-page c.args.self.now c.restate.new.self c.copy_in.new.self c.touch.new.self c.args.b c.unwrap-at.result p c.args.bytes.now placed
+    some-at c.place_of.result c.unwrap-at.result (IsPlaced c.args.self.now.places c.args.b) c.unwrap-at.ensures
+    c.place_of.ensures.some in
+    loaded-page c.args.self.now c.restate.new.self c.copy_in.new.self c.touch.new.self c.args.b c.unwrap-at.result p
+    c.args.bytes.now placed
     c.page.ensures.page c.restate.ensures c.copy_in.ensures c.touch.ensures.rest
 
 pub returns-clause-touched : goal.returns-clause-touched
 returns-clause-touched g c =
     let page = c.page.result.now in
-    let p : Held = record { key = page.key; bytes = page.bytes.items; tag = option_map g.S.TagStore.number page.tag; state = page.state } in
+    let p : Held = record {
+      key = page.key;
+      bytes = page.bytes.items;
+      tag = option_map g.S.TagStore.number page.tag;
+      state = page.state;
+    } in
     let placed =
-    some-at c.place_of.result c.unwrap-at.result (IsPlaced c.args.self.now.places c.args.b) c.unwrap-at.ensures c.place_of.ensures.some in
-    loaded-touched c.args.self.now c.restate.new.self c.copy_in.new.self c.touch.new.self c.args.b c.unwrap-at.result p c.args.bytes.now placed
-    c.page.ensures.page c.restate.ensures c.copy_in.ensures c.touch.ensures.rest c.touch.ensures.len c.touch.ensures.touches
+    some-at c.place_of.result c.unwrap-at.result (IsPlaced c.args.self.now.places c.args.b) c.unwrap-at.ensures
+    c.place_of.ensures.some in
+    loaded-touched c.args.self.now c.restate.new.self c.copy_in.new.self c.touch.new.self c.args.b c.unwrap-at.result p
+    c.args.bytes.now placed
+    c.page.ensures.page c.restate.ensures c.copy_in.ensures c.touch.ensures.rest c.touch.ensures.len
+    c.touch.ensures.touches
 
 pub returns-clause-spare : goal.returns-clause-spare
 returns-clause-spare g c =
     let page = c.page.result.now in
-    let p : Held = record { key = page.key; bytes = page.bytes.items; tag = option_map g.S.TagStore.number page.tag; state = page.state } in
+    let p : Held = record {
+      key = page.key;
+      bytes = page.bytes.items;
+      tag = option_map g.S.TagStore.number page.tag;
+      state = page.state;
+    } in
     let placed =
-    some-at c.place_of.result c.unwrap-at.result (IsPlaced c.args.self.now.places c.args.b) c.unwrap-at.ensures c.place_of.ensures.some in
-    loaded-spare c.args.self.now c.restate.new.self c.copy_in.new.self c.touch.new.self c.args.b c.unwrap-at.result p c.args.bytes.now placed
+    some-at c.place_of.result c.unwrap-at.result (IsPlaced c.args.self.now.places c.args.b) c.unwrap-at.ensures
+    c.place_of.ensures.some in
+    loaded-spare c.args.self.now c.restate.new.self c.copy_in.new.self c.touch.new.self c.args.b c.unwrap-at.result p
+    c.args.bytes.now placed
     c.page.ensures.page c.restate.ensures c.copy_in.ensures c.touch.ensures.rest

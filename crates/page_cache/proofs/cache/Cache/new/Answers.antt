@@ -13,12 +13,14 @@ invariant_of-result g c =
     let number = g.S.TagStore.number in
     let count = c.max-count.result in
     rw (c.in_ok-empty_places.ensures, map-replicate (seen number) count None)
-    (kept-new c.args.places count c.in_ok-new.field-0 c.in_ok-new-2.field-0 (omega arith) (omega arith) (omega arith) (omega arith)
+    (kept-new c.args.places count c.in_ok-new.field-0 c.in_ok-new-2.field-0 (omega arith) (omega arith) (omega arith)
+    (omega arith)
     c.in_ok-new.ensures c.in_ok-new-2.ensures)
 
 pub returns-clause-empty : goal.returns-clause-empty
 returns-clause-empty g c =
-    λ b. rw (c.in_ok-empty_places.ensures, map-replicate (seen g.S.TagStore.number) c.max-count.result None) (empty-place {X = Held} c.max-count.result _)
+    λ b. rw (c.in_ok-empty_places.ensures, map-replicate (seen g.S.TagStore.number) c.max-count.result None)
+    (empty-place {X = Held} c.max-count.result _)
 
 pub returns-clause-none : goal.returns-clause-none
 returns-clause-none g c =
@@ -33,5 +35,9 @@ returns-clause-settled g c =
 
 pub returns-clause-tags : goal.returns-clause-tags
 returns-clause-tags g c =
-    λ n. rw (c.in_ok-empty_places.ensures, map-replicate (seen g.S.TagStore.number) c.max-count.result None, map-replicate tag_in c.max-count.result None)
+    λ n. rw (
+      c.in_ok-empty_places.ensures,
+      map-replicate (seen g.S.TagStore.number) c.max-count.result None,
+      map-replicate tag_in c.max-count.result None,
+    )
     (held-empty same c.max-count.result n)

@@ -8,9 +8,11 @@ unwrap-requires g c = is-there c.place_of.result _ c.place_of.ensures.none (λ n
 
 pub sum_at-requires-clause-page : goal.sum_at-requires-clause-page
 sum_at-requires-clause-page g c =
-    (some-at c.place_of.result c.unwrap.result (IsPlaced c.args.self.now.places c.args.b) c.unwrap.ensures c.place_of.ensures.some).held
+    (some-at c.place_of.result c.unwrap.result (IsPlaced c.args.self.now.places c.args.b) c.unwrap.ensures
+    c.place_of.ensures.some).held
 
 pub returns : goal.returns
 returns g c =
-    let placed = some-at c.place_of.result c.unwrap.result (IsPlaced c.args.self.now.places c.args.b) c.unwrap.ensures c.place_of.ensures.some in
+    let placed = some-at c.place_of.result c.unwrap.result (IsPlaced c.args.self.now.places c.args.b) c.unwrap.ensures
+    c.place_of.ensures.some in
     rw placed.slot.page c.sum_at.ensures

@@ -11,7 +11,8 @@ invariant_of-self g c =
     let here : get_or i.places.items c.args.at None ≡ Some c.unwrap-page.result.now = grind (arith, common_steps) in
     let mark = c.of-mark.ensures ∙ ap (λ dirty. mark_of dirty c.args.state) c.is_some.ensures in
     rw c.mark.ensures
-    (keeps-changed g.S.TagStore.number i.limit i.spare i.places.items i.guide i.pool c.args.at c.unwrap-page.result.now c.unwrap-page.result.now.tag
+    (keeps-changed g.S.TagStore.number i.limit i.spare i.places.items i.guide i.pool c.args.at c.unwrap-page.result.now
+    c.unwrap-page.result.now.tag
     c.args.state c.of-mark.result c.self.invariant here mark)
 
 pub returns : goal.returns
@@ -19,5 +20,6 @@ returns g c =
     let i = c.self.inside in
     let here : get_or i.places.items c.args.at None ≡ Some c.unwrap-page.result.now = grind (arith, common_steps) in
     rw (← c.self.view_is)
-    (view-stated g.S.TagStore.number i.limit i.spare i.places.items i.guide i.pool c.args.at c.mark.new.self c.unwrap-page.result.now
+    (view-stated g.S.TagStore.number i.limit i.spare i.places.items i.guide i.pool c.args.at c.mark.new.self
+    c.unwrap-page.result.now
     c.args.state here (ap (λ (v : Guided). v.touches) c.mark.ensures))

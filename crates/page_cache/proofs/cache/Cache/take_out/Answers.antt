@@ -17,7 +17,8 @@ pub unwrap-at-requires : goal.unwrap-at-requires
 unwrap-at-requires g c =
     let v2 = c.take_run-bytes.new.self in
     let places : v2.places ≡ c.args.self.now.places =
-    ap (λ (v : Cached). v.places) c.take_run-bytes.ensures.rest ∙ ap (λ (v : Cached). v.places) c.in_ok-room.ensures.rest in
+    ap (λ (v : Cached). v.places) c.take_run-bytes.ensures.rest
+    ∙ ap (λ (v : Cached). v.places) c.in_ok-room.ensures.rest in
     let k = c.loop-k.k in
     let cur = c.loop-k.self in
     let store = g.S.TagStore.now in
@@ -36,7 +37,8 @@ pub loop-k-preserved : goal.loop-k-preserved
 loop-k-preserved g c =
     let v2 = c.take_run-bytes.new.self in
     let places : v2.places ≡ c.args.self.now.places =
-    ap (λ (v : Cached). v.places) c.take_run-bytes.ensures.rest ∙ ap (λ (v : Cached). v.places) c.in_ok-room.ensures.rest in
+    ap (λ (v : Cached). v.places) c.take_run-bytes.ensures.rest
+    ∙ ap (λ (v : Cached). v.places) c.in_ok-room.ensures.rest in
     let k = c.loop-k.k in
     let cur = c.loop-k.self in
     let store = g.S.TagStore.now in
@@ -44,7 +46,8 @@ loop-k-preserved g c =
     let ready : IsReady v2 b = ready-as c.args.self.now v2 b places (c.requires.ready k c.loop-k-test.true) in
     let takes = c.loop-k.invariant.takes in
     let still = takes-still (store c.whole_tag.new.tags) (store c.loop-k.tags) v2 cur c.args.s c.args.page k takes in
-    let placed = some-at c.place_of.result c.unwrap-at.result (IsPlaced cur.places b) c.unwrap-at.ensures c.place_of.ensures.some in
+    let placed = some-at c.place_of.result c.unwrap-at.result (IsPlaced cur.places b) c.unwrap-at.ensures
+    c.place_of.ensures.some in
     let page = c.page.result.now in
     let here : bytes_in (page_of v2 b) ≡ page.bytes.items =
     sym (ap bytes_in still) ∙ ap bytes_in placed.slot.page ∙ ap bytes_in c.page.ensures.page in
@@ -57,11 +60,14 @@ loop-k-preserved g c =
     extended c.extend_from_slice.result _ _ _ c.extend_from_slice.ensures.items done
     ∙ ap (λ more. c.loop-k.bytes.items ++ more) c.deref.ensures.value in
     record {
-      takes = takes-more (store c.whole_tag.new.tags) (store c.loop-k.tags) (store c.take_page.new.tags) v2 cur c.take_page.new.self c.args.s
+      takes = takes-more (store c.whole_tag.new.tags) (store c.loop-k.tags) (store c.take_page.new.tags) v2 cur
+          c.take_page.new.self c.args.s
           c.args.page k c.unwrap-at.result takes ready placed c.take_page.ensures.page c.take_page.ensures.moved;
       bytes = items ∙ ap (λ first. first ++ page.bytes.items) c.loop-k.invariant.bytes
-          ∙ ap (λ last. bytes_of v2 c.args.s c.args.page k ++ last) (sym here) ∙ sym (bytes-more v2 c.args.s c.args.page k);
-      len = ap length items ∙ (length-append c.loop-k.bytes.items page.bytes.items ∙ omega (arith, c.loop-k.invariant.len, c.page.ensures.len));
+          ∙ ap (λ last. bytes_of v2 c.args.s c.args.page k ++ last) (sym here)
+          ∙ sym (bytes-more v2 c.args.s c.args.page k);
+      len = ap length items ∙ (length-append c.loop-k.bytes.items page.bytes.items
+          ∙ omega (arith, c.loop-k.invariant.len, c.page.ensures.len));
       room = omega (arith, c.loop-k.invariant.room, c.extend_from_slice.ensures.capacity);
       tags_spare = omega (arith, c.loop-k.invariant.tags_spare, c.take_page.ensures.spare);
     }
@@ -70,19 +76,26 @@ pub returns-clause-pages : goal.returns-clause-pages
 returns-clause-pages g c =
     let v2 = c.take_run-bytes.new.self in
     let places : v2.places ≡ c.args.self.now.places =
-    ap (λ (v : Cached). v.places) c.take_run-bytes.ensures.rest ∙ ap (λ (v : Cached). v.places) c.in_ok-room.ensures.rest in
+    ap (λ (v : Cached). v.places) c.take_run-bytes.ensures.rest
+    ∙ ap (λ (v : Cached). v.places) c.in_ok-room.ensures.rest in
     let all : c.loop-k.k ≡ c.args.n = omega (arith, c.loop-k.auto.k-end) in
     let done = rw all at c.loop-k.invariant.takes in
-    takes-all (g.S.TagStore.now c.whole_tag.new.tags) (g.S.TagStore.now c.loop-k.tags) c.args.self.now v2 c.loop-k.self c.args.s c.args.page c.args.n
-    places (ap (λ (v : Cached). v.touches) c.take_run-bytes.ensures.rest ∙ ap (λ (v : Cached). v.touches) c.in_ok-room.ensures.rest)
-    (ap (λ (v : Cached). v.limit) c.take_run-bytes.ensures.rest ∙ ap (λ (v : Cached). v.limit) c.in_ok-room.ensures.rest) done
+    takes-all (g.S.TagStore.now c.whole_tag.new.tags) (g.S.TagStore.now c.loop-k.tags) c.args.self.now v2 c.loop-k.self
+    c.args.s c.args.page c.args.n
+    places (ap (λ (v : Cached). v.touches) c.take_run-bytes.ensures.rest
+    ∙ ap (λ (v : Cached). v.touches) c.in_ok-room.ensures.rest)
+    (ap (λ (v : Cached). v.limit) c.take_run-bytes.ensures.rest
+    ∙ ap (λ (v : Cached). v.limit) c.in_ok-room.ensures.rest) done
 
 pub returns-clause-causes : goal.returns-clause-causes
 returns-clause-causes g c =
     let v2 = c.take_run-bytes.new.self in
     let places : v2.places ≡ c.args.self.now.places =
-    ap (λ (v : Cached). v.places) c.take_run-bytes.ensures.rest ∙ ap (λ (v : Cached). v.places) c.in_ok-room.ensures.rest in
+    ap (λ (v : Cached). v.places) c.take_run-bytes.ensures.rest
+    ∙ ap (λ (v : Cached). v.places) c.in_ok-room.ensures.rest in
     let all : c.loop-k.k ≡ c.args.n = omega (arith, c.loop-k.auto.k-end) in
     let done = rw all at c.loop-k.invariant.takes in
-    takes-causes (g.S.TagStore.now c.args.tags.now) (g.S.TagStore.now c.whole_tag.new.tags) (g.S.TagStore.now c.loop-k.tags) c.args.self.now v2
-    c.loop-k.self c.args.s c.args.page c.args.n (g.S.TagStore.number c.in_ok-tag.tag) places c.in_ok-tag.ensures.moved c.requires.covers done
+    takes-causes (g.S.TagStore.now c.args.tags.now) (g.S.TagStore.now c.whole_tag.new.tags)
+    (g.S.TagStore.now c.loop-k.tags) c.args.self.now v2
+    c.loop-k.self c.args.s c.args.page c.args.n (g.S.TagStore.number c.in_ok-tag.tag) places c.in_ok-tag.ensures.moved
+    c.requires.covers done

@@ -12,7 +12,8 @@ use Rattle.page_cache.proofs.cache.Cache.take_page.Goals as goal
 pub let_go-requires : goal.let_go-requires
 let_go-requires g c =
     record {
-      live = λ n. rw (← use_in-same g.S.TagStore.number c.change-tag.result n, c.change-tag.ensures.tag) (c.requires.live n);
+      live = λ n. rw (← use_in-same g.S.TagStore.number c.change-tag.result n, c.change-tag.ensures.tag)
+          (c.requires.live n);
     }
 
 pub returns-clause-page : goal.returns-clause-page
@@ -21,7 +22,8 @@ returns-clause-page g c =
     let x = get_or c.args.self.now.places c.args.at None in
     let state : State = record page.state { busy = true } in
     let now : changed None state x ≡ option_map taken x = rw c.page.ensures.page refl in
-    c.change-tag.ensures.rest ∙ ap (λ y. let v : Cached = record c.args.self.now { places = set c.args.self.now.places c.args.at y } in v) now
+    c.change-tag.ensures.rest ∙ ap (λ y. let v : Cached =
+    record c.args.self.now { places = set c.args.self.now.places c.args.at y } in v) now
 
 pub returns-clause-moved : goal.returns-clause-moved
 returns-clause-moved g c =
@@ -29,5 +31,6 @@ returns-clause-moved g c =
     let number = g.S.TagStore.number in
     let tag = c.change-tag.result in
     let store = g.S.TagStore.now in
-    moved-as (store c.args.tags.now) (store c.let_go.new.tags) (use_in number tag) no_use (use_in same (tag_in x)) no_use c.let_go.ensures.moved
+    moved-as (store c.args.tags.now) (store c.let_go.new.tags) (use_in number tag) no_use (use_in same (tag_in x))
+    no_use c.let_go.ensures.moved
     (λ n. rw (← c.change-tag.ensures.tag) (use_in-same number tag n)) (λ n. refl)

@@ -13,7 +13,8 @@ page-requires g c =
     let i = c.self.inside in
     let number = g.S.TagStore.number in
     let seen = ap (λ (v : Cached). v.places) c.self.view_is in
-    let pinned = pinned-found c.args.by (all_seen number i.places.items) i.guide.pins c.in-Some.at c.self.invariant.guided.pins c.in-Some.ensures.found in
+    let pinned = pinned-found c.args.by (all_seen number i.places.items) i.guide.pins c.in-Some.at
+    c.self.invariant.guided.pins c.in-Some.ensures.found in
     let now_pinned : is_pinning c.args.by (get_or c.loop-at.self.places c.in-Some.at None) ≡ true = rw seen at pinned in
     pinning-some c.args.by (get_or c.loop-at.self.places c.in-Some.at None) now_pinned
 
@@ -22,7 +23,8 @@ restate-requires g c =
     let i = c.self.inside in
     let number = g.S.TagStore.number in
     let seen = ap (λ (v : Cached). v.places) c.self.view_is in
-    let pinned = pinned-found c.args.by (all_seen number i.places.items) i.guide.pins c.in-Some.at c.self.invariant.guided.pins c.in-Some.ensures.found in
+    let pinned = pinned-found c.args.by (all_seen number i.places.items) i.guide.pins c.in-Some.at
+    c.self.invariant.guided.pins c.in-Some.ensures.found in
     let now_pinned : is_pinning c.args.by (get_or c.loop-at.self.places c.in-Some.at None) ≡ true = rw seen at pinned in
     pinning-some c.args.by (get_or c.loop-at.self.places c.in-Some.at None) now_pinned
 
@@ -31,19 +33,29 @@ loop-at-preserved g c =
     let i = c.self.inside in
     let number = g.S.TagStore.number in
     let seen = ap (λ (v : Cached). v.places) c.self.view_is in
-    let pinned = pinned-found c.args.by (all_seen number i.places.items) i.guide.pins c.in-Some.at c.self.invariant.guided.pins c.in-Some.ensures.found in
+    let pinned = pinned-found c.args.by (all_seen number i.places.items) i.guide.pins c.in-Some.at
+    c.self.invariant.guided.pins c.in-Some.ensures.found in
     let now_pinned : is_pinning c.args.by (get_or c.loop-at.self.places c.in-Some.at None) ≡ true = rw seen at pinned in
     let page = c.page.result.now in
-    let p : Held = record { key = page.key; bytes = page.bytes.items; tag = option_map number page.tag; state = page.state } in
+    let p : Held = record {
+      key = page.key;
+      bytes = page.bytes.items;
+      tag = option_map number page.tag;
+      state =
+          page.state;
+    } in
     let here : get_or c.loop-at.self.places c.in-Some.at None ≡ Some p = c.page.ensures.page in
     let p_pinned : is_pinning c.args.by (Some p) ≡ true = sym (ap (is_pinning c.args.by) here) ∙ now_pinned in
     let within : c.in-Some.at < length c.loop-at.self.places =
-    some-inside c.loop-at.self.places c.in-Some.at (pinning-some c.args.by (get_or c.loop-at.self.places c.in-Some.at None) now_pinned) in
-    let places : c.restate.new.self.places ≡ set c.loop-at.self.places c.in-Some.at (Some record p { state = record p.state { pin = None } }) =
+    some-inside c.loop-at.self.places c.in-Some.at (pinning-some c.args.by
+    (get_or c.loop-at.self.places c.in-Some.at None) now_pinned) in
+    let places : c.restate.new.self.places ≡ set c.loop-at.self.places c.in-Some.at
+    (Some record p { state = record p.state { pin = None } }) =
     ap (λ (v : Cached). v.places) c.restate.ensures
     ∙ ap (λ x. set c.loop-at.self.places c.in-Some.at (with_state record p.state { pin = None } x)) here in
     record {
-      unpinned = ap (all_unpinned c.args.by) places ∙ unpin-more c.args.by c.loop-at.self.places c.in-Some.at p here p_pinned
+      unpinned = ap (all_unpinned c.args.by) places ∙ unpin-more c.args.by c.loop-at.self.places c.in-Some.at p here
+          p_pinned
           ∙ c.loop-at.invariant.unpinned;
       touches = ap (λ (v : Cached). v.touches) c.restate.ensures ∙ c.loop-at.invariant.touches;
       limit = ap (λ (v : Cached). v.limit) c.restate.ensures ∙ c.loop-at.invariant.limit;
@@ -55,15 +67,24 @@ loop-at-smaller g c =
     let i = c.self.inside in
     let number = g.S.TagStore.number in
     let seen = ap (λ (v : Cached). v.places) c.self.view_is in
-    let pinned = pinned-found c.args.by (all_seen number i.places.items) i.guide.pins c.in-Some.at c.self.invariant.guided.pins c.in-Some.ensures.found in
+    let pinned = pinned-found c.args.by (all_seen number i.places.items) i.guide.pins c.in-Some.at
+    c.self.invariant.guided.pins c.in-Some.ensures.found in
     let now_pinned : is_pinning c.args.by (get_or c.loop-at.self.places c.in-Some.at None) ≡ true = rw seen at pinned in
     let page = c.page.result.now in
-    let p : Held = record { key = page.key; bytes = page.bytes.items; tag = option_map number page.tag; state = page.state } in
+    let p : Held = record {
+      key = page.key;
+      bytes = page.bytes.items;
+      tag = option_map number page.tag;
+      state =
+          page.state;
+    } in
     let here : get_or c.loop-at.self.places c.in-Some.at None ≡ Some p = c.page.ensures.page in
     let p_pinned : is_pinning c.args.by (Some p) ≡ true = sym (ap (is_pinning c.args.by) here) ∙ now_pinned in
     let within : c.in-Some.at < length c.loop-at.self.places =
-    some-inside c.loop-at.self.places c.in-Some.at (pinning-some c.args.by (get_or c.loop-at.self.places c.in-Some.at None) now_pinned) in
-    let places : c.restate.new.self.places ≡ set c.loop-at.self.places c.in-Some.at (Some record p { state = record p.state { pin = None } }) =
+    some-inside c.loop-at.self.places c.in-Some.at (pinning-some c.args.by
+    (get_or c.loop-at.self.places c.in-Some.at None) now_pinned) in
+    let places : c.restate.new.self.places ≡ set c.loop-at.self.places c.in-Some.at
+    (Some record p { state = record p.state { pin = None } }) =
     ap (λ (v : Cached). v.places) c.restate.ensures
     ∙ ap (λ x. set c.loop-at.self.places c.in-Some.at (with_state record p.state { pin = None } x)) here in
     rw places (unpin-fewer c.args.by c.loop-at.self.places c.in-Some.at p here p_pinned within)
@@ -73,9 +94,12 @@ returns-clause-pages g c =
     let i = c.self.inside in
     let number = g.S.TagStore.number in
     let seen = ap (λ (v : Cached). v.places) c.self.view_is in
-    let none = none-pinned c.args.by (all_seen number i.places.items) i.guide.pins c.self.invariant.guided.pins c.in_default.ensures.none in
-    let still : all_unpinned c.args.by c.loop-at.self.places ≡ c.loop-at.self.places = rw seen at (unpinned-all c.args.by (all_seen number i.places.items) none) in
-    let places : c.loop-at.self.places ≡ all_unpinned c.args.by c.args.self.now.places = sym still ∙ c.loop-at.invariant.unpinned in
+    let none = none-pinned c.args.by (all_seen number i.places.items) i.guide.pins c.self.invariant.guided.pins
+    c.in_default.ensures.none in
+    let still : all_unpinned c.args.by c.loop-at.self.places ≡ c.loop-at.self.places =
+    rw seen at (unpinned-all c.args.by (all_seen number i.places.items) none) in
+    let places : c.loop-at.self.places ≡ all_unpinned c.args.by c.args.self.now.places = sym still
+    ∙ c.loop-at.invariant.unpinned in
     unpins c.args.self.now c.loop-at.self c.args.by places c.loop-at.invariant.touches c.loop-at.invariant.limit
 
 pub returns-clause-tags : goal.returns-clause-tags
@@ -83,9 +107,12 @@ returns-clause-tags g c =
     let i = c.self.inside in
     let number = g.S.TagStore.number in
     let seen = ap (λ (v : Cached). v.places) c.self.view_is in
-    let none = none-pinned c.args.by (all_seen number i.places.items) i.guide.pins c.self.invariant.guided.pins c.in_default.ensures.none in
-    let still : all_unpinned c.args.by c.loop-at.self.places ≡ c.loop-at.self.places = rw seen at (unpinned-all c.args.by (all_seen number i.places.items) none) in
-    let places : c.loop-at.self.places ≡ all_unpinned c.args.by c.args.self.now.places = sym still ∙ c.loop-at.invariant.unpinned in
+    let none = none-pinned c.args.by (all_seen number i.places.items) i.guide.pins c.self.invariant.guided.pins
+    c.in_default.ensures.none in
+    let still : all_unpinned c.args.by c.loop-at.self.places ≡ c.loop-at.self.places =
+    rw seen at (unpinned-all c.args.by (all_seen number i.places.items) none) in
+    let places : c.loop-at.self.places ≡ all_unpinned c.args.by c.args.self.now.places = sym still
+    ∙ c.loop-at.invariant.unpinned in
     unpins-tags c.args.self.now c.loop-at.self c.args.by places
 
 pub returns-clause-spare : goal.returns-clause-spare

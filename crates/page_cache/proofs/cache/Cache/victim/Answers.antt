@@ -14,21 +14,29 @@ returns-in_err-at-clause-none g c =
     let places = all_seen g.S.TagStore.number i.places.items in
     rw (← c.self.view_is)
     (none-anyway c.from_residual.result _
-    (λ b. no-victim i.guide places (position_or_len (is_page b) places) c.self.invariant.guided c.in_err-at.ensures.none))
+    (λ b. no-victim i.guide places (position_or_len (is_page b) places) c.self.invariant.guided
+    c.in_err-at.ensures.none))
 
 pub page-requires : goal.page-requires
 page-requires g c =
     let i = c.self.inside in
     let places = all_seen g.S.TagStore.number i.places.items in
     rw (← c.self.view_is)
-    (idle-held (get_or places c.in_ok-at.at None) (oldest-idle i.guide places c.in_ok-at.at c.self.invariant.guided c.in_ok-at.ensures.oldest))
+    (idle-held (get_or places c.in_ok-at.at None) (oldest-idle i.guide places c.in_ok-at.at c.self.invariant.guided
+    c.in_ok-at.ensures.oldest))
 
 pub returns-clause-victim : goal.returns-clause-victim
 returns-clause-victim g c =
     let i = c.self.inside in
     let number = g.S.TagStore.number in
     let page = c.page.result.now in
-    let p : Held = record { key = page.key; bytes = page.bytes.items; tag = option_map number page.tag; state = page.state } in
+    let p : Held = record {
+      key = page.key;
+      bytes = page.bytes.items;
+      tag = option_map number page.tag;
+      state =
+          page.state;
+    } in
     let here : get_or (all_seen number i.places.items) c.in_ok-at.at None ≡ Some p =
     ap (λ (v : Cached). get_or v.places c.in_ok-at.at None) c.self.view_is ∙ c.page.ensures.page in
     rw (c.buf.ensures, ← c.self.view_is)

@@ -14,27 +14,43 @@ unwrap-at-requires g c =
 
 pub page-requires : goal.page-requires
 page-requires g c =
-    (some-at c.place_of.result c.unwrap-at.result (IsPlaced c.args.self.now.places c.args.b) c.unwrap-at.ensures c.place_of.ensures.some).held
+    (some-at c.place_of.result c.unwrap-at.result (IsPlaced c.args.self.now.places c.args.b) c.unwrap-at.ensures
+    c.place_of.ensures.some).held
 
 pub restate-requires : goal.restate-requires
 restate-requires g c =
-    (some-at c.place_of.result c.unwrap-at.result (IsPlaced c.args.self.now.places c.args.b) c.unwrap-at.ensures c.place_of.ensures.some).held
+    (some-at c.place_of.result c.unwrap-at.result (IsPlaced c.args.self.now.places c.args.b) c.unwrap-at.ensures
+    c.place_of.ensures.some).held
 
 pub returns-clause-page : goal.returns-clause-page
 returns-clause-page g c =
     let page = c.page.result.now in
-    let p : Held = record { key = page.key; bytes = page.bytes.items; tag = option_map g.S.TagStore.number page.tag; state = page.state } in
+    let p : Held = record {
+      key = page.key;
+      bytes = page.bytes.items;
+      tag = option_map g.S.TagStore.number page.tag;
+      state = page.state;
+    } in
     let placed =
-    some-at c.place_of.result c.unwrap-at.result (IsPlaced c.args.self.now.places c.args.b) c.unwrap-at.ensures c.place_of.ensures.some in
-    written-page c.args.self.now c.restate.new.self c.args.b c.unwrap-at.result p placed c.page.ensures.page c.restate.ensures
+    some-at c.place_of.result c.unwrap-at.result (IsPlaced c.args.self.now.places c.args.b) c.unwrap-at.ensures
+    c.place_of.ensures.some in
+    written-page c.args.self.now c.restate.new.self c.args.b c.unwrap-at.result p placed c.page.ensures.page
+    c.restate.ensures
 
 pub returns-clause-touches : goal.returns-clause-touches
 returns-clause-touches g c =
     let page = c.page.result.now in
-    let p : Held = record { key = page.key; bytes = page.bytes.items; tag = option_map g.S.TagStore.number page.tag; state = page.state } in
+    let p : Held = record {
+      key = page.key;
+      bytes = page.bytes.items;
+      tag = option_map g.S.TagStore.number page.tag;
+      state = page.state;
+    } in
     let placed =
-    some-at c.place_of.result c.unwrap-at.result (IsPlaced c.args.self.now.places c.args.b) c.unwrap-at.ensures c.place_of.ensures.some in
-    written-touches c.args.self.now c.restate.new.self c.args.b c.unwrap-at.result p placed c.page.ensures.page c.restate.ensures
+    some-at c.place_of.result c.unwrap-at.result (IsPlaced c.args.self.now.places c.args.b) c.unwrap-at.ensures
+    c.place_of.ensures.some in
+    written-touches c.args.self.now c.restate.new.self c.args.b c.unwrap-at.result p placed c.page.ensures.page
+    c.restate.ensures
 
 pub returns-clause-spare : goal.returns-clause-spare
 returns-clause-spare g c = ap (λ (v : Cached). v.spare) c.restate.ensures
