@@ -2,3 +2,4 @@ pub mod Chains
 pub mod Lines
 pub mod Sheets
 pub mod Shared
+pub mod Digits

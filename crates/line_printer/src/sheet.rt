@@ -56,4 +56,12 @@ impl Printer for Sheet {
             self.cut = true;
         }
     }
+
+    fn put_pair(&mut self, first: u8, second: u8) {
+        self.put([first, second].as_slice());
+    }
+
+    fn put_triple(&mut self, first: u8, second: u8, third: u8) {
+        self.put([first, second, third].as_slice());
+    }
 }

@@ -1,5 +1,5 @@
 //! The page of text that waits to be handed over.
-ghost use Rattle.std.specs.Prelude.{◌≡◌, ◌+◌, ◌≤◌, [], ◌++◌, ◌↔◌, IsTrue, length, IfOk};
+ghost use Rattle.std.specs.Prelude.{◌≡◌, ◌+◌, ◌≤◌, ◌<◌, [], ◌∷◌, ◌++◌, ◌↔◌, IsTrue, length, IfOk};
 
 use std::alloc::{AllocError, Global};
 use std::marker::Model;
@@ -60,6 +60,37 @@ impl Page {
         let end = self.len + bytes.len();
         self.bytes[self.len..end].copy_from_slice(bytes);
         self.len = end;
+    }
+
+    /// Puts a byte behind those that stand there.
+    #[inline(always)]
+    fn push(&mut self, byte: u8)
+        requires { length self.old < 65536 }
+        ensures { self.new ≡ self.old ++ byte ∷ [] }
+    {
+        self.bytes[self.len] = byte;
+        self.len += 1;
+    }
+
+    /// Puts two bytes behind those that stand there.
+    #[inline(always)]
+    pub(crate) fn put_pair(&mut self, first: u8, second: u8)
+        requires { length self.old + 2 ≤ 65536 }
+        ensures { self.new ≡ self.old ++ first ∷ second ∷ [] }
+    {
+        self.push(first);
+        self.push(second);
+    }
+
+    /// Puts three bytes behind those that stand there.
+    #[inline(always)]
+    pub(crate) fn put_triple(&mut self, first: u8, second: u8, third: u8)
+        requires { length self.old + 3 ≤ 65536 }
+        ensures { self.new ≡ self.old ++ first ∷ second ∷ third ∷ [] }
+    {
+        self.push(first);
+        self.push(second);
+        self.push(third);
     }
 
     /// Empties the page.

@@ -108,4 +108,22 @@ impl<'a, K: Sink> Printer for SinkPrinter<'a, K> {
             self.turn(bytes);
         }
     }
+
+    #[inline(always)]
+    fn put_pair(&mut self, first: u8, second: u8) {
+        if self.page.has_room(2) {
+            self.page.put_pair(first, second);
+        } else {
+            self.turn([first, second].as_slice());
+        }
+    }
+
+    #[inline(always)]
+    fn put_triple(&mut self, first: u8, second: u8, third: u8) {
+        if self.page.has_room(3) {
+            self.page.put_triple(first, second, third);
+        } else {
+            self.turn([first, second, third].as_slice());
+        }
+    }
 }

@@ -1,5 +1,5 @@
 -- What was kept was handed over.
-use Rattle.std.proofs.Common.{◌++◌, ◌∙◌, [], ap, sym, subst}
+use Rattle.std.proofs.Common.{sym, subst}
 use Rattle.sink_printer.specs.Due.{Told, Due, Hands}
 use Rattle.sink_printer.proofs.Handing.{hands_due, kept_due}
 use Rattle.sink_printer.proofs.printer.SinkPrinter.flush.Goals as goal
