@@ -1,5 +1,5 @@
 -- The first element that a filter keeps is the one that a search finds.
-use Rattle.std.proofs.Common.{◌≡◌, List, [], ◌∷◌, filter, find, cond, Bool, true, false, Some, Option, refl}
+use Rattle.std.proofs.Common.{◌≡◌, List, [], ◌∷◌, filter, find, cond, Bool, true, false, Some, refl}
 use Rattle.std.specs.List.{slice_get}
 
 pub first_kept : {X : Type 0} (p : X → Bool) (xs : List X) → slice_get (filter p xs) 0 ≡ find p xs

@@ -1,1 +1,2 @@
 pub mod FirstKept
+pub mod FrontReads

@@ -1,5 +1,5 @@
 -- Which of the requests that wait a scheduler may send.
-use Rattle.std.specs.Prelude.{List, find, Bool, not, ◌||◌, Option, None, if◌then◌else◌}
+use Rattle.std.specs.Prelude.{List, find, not, ◌||◌, Option, None, if◌then◌else◌}
 use Rattle.split_types.specs.declared.request.Request.{Request}
 use Rattle.split_types.specs.Requests.{is_write}
 use Rattle.split_types.specs.Schedulers.{earlier}

@@ -1,32 +1,40 @@
 //! The requests among which schedulers choose.
-ghost use Rattle.std.specs.Prelude.{◌≡◌, find, option_copied};
+ghost use Rattle.std.specs.Prelude.{◌≡◌, filter, find, slice_get};
 ghost use Rattle.split_types.specs.Requests.{is_write};
 ghost use Rattle.split_types.specs.Schedulers.{earlier};
+ghost use Rattle.block_queue.specs.Backlog.{IsById, is_read};
 ghost use Rattle.sched_api.specs.Picks.{oldest_write, eligible_write, oldest_read};
 
 use crate::view::SchedView;
 use block_queue::Queue;
-use split_types::{ReqKind, Request};
+use split_types::Request;
 
-/// Whether a request writes.
-fn is_write(r: &Request) -> bool
-    ensures { result ≡ is_write r.now }
+/// How many reads stand before the oldest write, where requests stand by rising id. A request stands at the same
+/// place among the reads alone exactly where no write is at or before it.
+fn reads_in_front(requests: &[Request], reads: &[Request]) -> usize
+    requires by_id { IsById requests.now }
+    requires reads { reads.now ≡ filter is_read requests.now }
+    ensures { slice_get requests.now result ≡ find is_write requests.now }
 {
-    !matches!(r.kind, ReqKind::Read(_, _, _))
-}
-
-/// The first request that writes.
-fn first_write(requests: &[Request]) -> Option<&Request>
-    ensures { option_copied result ≡ find is_write requests.now }
-{
-    requests.iter().find(|r| is_write(r))
+    let mut front = 0;
+    let mut end = reads.len();
+    while front < end {
+        let middle = front + (end - front) / 2;
+        if reads[middle].id.0 == requests[middle].id.0 {
+            front = middle + 1;
+        } else {
+            end = middle;
+        }
+    }
+    front
 }
 
 /// The write that was added first.
 pub fn oldest_write(q: &Queue) -> Option<Request>
     ensures { result ≡ oldest_write q.now.queued }
 {
-    first_write(q.queued()).copied()
+    let requests = q.queued();
+    requests.get(reads_in_front(requests, q.reads())).copied()
 }
 
 /// The write that was added first, where it may be sent.

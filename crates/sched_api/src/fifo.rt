@@ -30,7 +30,10 @@ impl SplitSched for FifoSched {
 
     ghost notes = { λ old e f new. new ≡ old };
 
-    fn on_event(&mut self, _e: &Event, _f: &SchedView<'_>) -> Result<(), AllocError> {
+    fn on_event(&mut self, _e: &Event, _f: &SchedView<'_>) -> Result<(), AllocError>
+        ensures succeeds { IsOk result }
+        ensures same { self.new ≡ self.old }
+    {
         Ok(())
     }
 

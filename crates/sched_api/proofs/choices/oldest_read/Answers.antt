@@ -1,5 +1,5 @@
 -- The reads of a queue are those that wait, by id.
-use Rattle.std.proofs.Common.{◌≡◌, not, ap, ◌∙◌}
+use Rattle.std.proofs.Common.{not, ap, ◌∙◌}
 use Rattle.std.specs.List.{slice_get}
 use Rattle.split_types.specs.Requests.{is_write}
 use Rattle.sched_api.proofs.FirstKept.{first_kept}
