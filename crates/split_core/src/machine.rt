@@ -10,6 +10,10 @@ use split_types::Workload;
 use std::alloc::{AllocError, Global};
 use std::marker::Model;
 
+/// So many events come of a call that writes one page: it is entered and admitted, puts, and returns, and the page is
+/// served, added, sent and done.
+const EVENTS_OF_A_CALL: u32 = 8;
+
 /// The stack of a workload: the events that it has made, and what it needs to make the next.
 ///
 /// Contracts see it as its workload and its history.
@@ -31,6 +35,16 @@ impl Model for Core {
     ghost invariant = { λ c. StandsFor c.workload c.plan c.parts c.history.events };
 }
 
+/// The history of no event, with room for those that come of calls of one page each.
+fn history_of(alloc: Global, w: &Workload) -> Result<History, AllocError>
+    requires { IsAccepted w.now }
+    ensures { IfOk result (λ h. h.events ≡ []) }
+{
+    let mut history = History::new(alloc)?;
+    history.room(EVENTS_OF_A_CALL * w.calls.len() as u32)?;
+    Ok(history)
+}
+
 impl Core {
     /// The stack of a workload before any event.
     pub fn new(alloc: Global, w: Workload) -> Result<Core, AllocError>
@@ -39,7 +53,7 @@ impl Core {
     {
         let plan = Plan::new(alloc, &w)?;
         let parts = Parts::new(alloc, &w, &plan)?;
-        let history = History::new(alloc)?;
+        let history = history_of(alloc, &w)?;
         Ok(Core {
             workload: w,
             plan,

@@ -85,13 +85,14 @@ impl Parts {
     {
         let clients = Clients::new(alloc, w, plan)?;
         let pages = Pages::new(alloc, w, plan.pages.len())?;
+        let book = Book::new(alloc, w)?;
         let flight = Flight::new(alloc, w)?;
         let money = Money::new(alloc, w)?;
         let counts = Counts::new(alloc, w)?;
         Ok(Parts {
             clients,
             pages,
-            book: Book::new(alloc),
+            book,
             flight,
             service: Served::new(),
             time: Time::new(),

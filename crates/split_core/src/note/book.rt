@@ -1,5 +1,5 @@
 //! The requests, with what is known of each.
-ghost use Rattle.std.specs.Prelude.{◌≡◌, ◌<◌, [], List, OnOk, vec_len};
+ghost use Rattle.std.specs.Prelude.{◌≡◌, ◌<◌, [], List, IfOk, OnOk, vec_len};
 ghost use Rattle.std.specs.Vec.{vec_capacity};
 ghost use Rattle.split_types.specs.declared.event.Event.{Event};
 ghost use Rattle.split_types.specs.History.{◌▹◌, adds};
@@ -29,13 +29,12 @@ pub(crate) struct Book {
 }
 
 impl Book {
-    /// No request.
-    pub(crate) fn new(alloc: Global) -> Book
-        ensures { BookStands result [] }
+    /// No request. Room is made for about as many as there are calls.
+    pub(crate) fn new(alloc: Global, w: &Workload) -> Result<Book, AllocError>
+        ensures { IfOk result (λ b. BookStands b []) }
     {
-        Book {
-            entries: Vec::new(alloc),
-        }
+        let entries = Vec::with_capacity(alloc, w.calls.len())?;
+        Ok(Book { entries })
     }
 
     /// Makes room for one more request.
