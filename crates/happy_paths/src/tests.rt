@@ -1,3 +1,4 @@
 mod machine;
 mod texts;
+mod traces;
 mod types;

@@ -1,30 +1,20 @@
 -- The events that numbers make.
-use Rattle.std.proofs.Common.{◌≡◌, ℕ, zero, suc, ◌+◌, ◌<◌, ◌≤◌, ◌==◌, ◌∙◌, Bool, true, false, ◌&&◌, List, [], ◌∷◌, ◌++◌, length, map, take, drop, get_or, if◌then◌else◌, Option, Some, None, ap, refl, sym, subst, arith, eqb-true}
+use Rattle.std.proofs.Common.{◌≡◌, ℕ, zero, suc, ◌+◌, ◌≤◌, ◌∙◌, Bool, true, false, ◌&&◌, List, [], ◌∷◌, length, map, take, drop, get_or, if◌then◌else◌, Some, ap, refl, sym, subst, arith}
 use Rattle.std.proofs.lemmas.Bool.{false≢true}
 use Rattle.std.proofs.lemmas.List.{drop_more}
 use Rattle.std.specs.List.{list_all}
 use Rattle.split_types.specs.declared.ids.Pid.{Pid}
-use Rattle.split_types.specs.declared.actor.Actor.{Actor}
 use Rattle.split_types.specs.declared.actor.Actor.TheVariants as actor
-use Rattle.split_types.specs.declared.call.Reply.{Reply}
-use Rattle.split_types.specs.declared.event.Event.{Event}
-use Rattle.split_types.specs.declared.event.Event.TheVariants as event
 use Rattle.split_types.specs.Hooks.{maker}
 use Rattle.split_types.specs.EventText.{flag}
-use Rattle.workload_reader.specs.Fields.{Keeps, IsWithin}
+use Rattle.workload_reader.specs.Fields.{IsWithin}
 use Rattle.workload_reader.specs.Table.{IsActorOf}
 use Rattle.trace_text.specs.declared.numbers.Numbers.{Numbers}
 use Rattle.trace_text.specs.declared.row.ClientRow.{ClientRow}
 use Rattle.trace_text.specs.declared.row.ClientRow.TheVariants as client
-use Rattle.trace_text.specs.declared.row.ThreadRow.{ThreadRow}
-use Rattle.trace_text.specs.declared.row.ThreadRow.TheVariants as thread
-use Rattle.trace_text.specs.declared.row.RequestRow.{RequestRow}
-use Rattle.trace_text.specs.declared.row.RequestRow.TheVariants as asked
-use Rattle.trace_text.specs.declared.row.ReplyRow.{ReplyRow}
-use Rattle.trace_text.specs.declared.row.ReplyRow.TheVariants as answer
-use Rattle.trace_text.specs.EventLines.{EventLine, Shown, OddMap, is_small, is_wide, smalls, wides, reply_smalls, reply_wides, AreInRange, IsReplyInRange, IsInRange}
-use Rattle.trace_text.specs.Numbers.{small_or_none, wide_or_none, LineNumbers, HasCounts, wide_of, Holds}
-use Rattle.trace_text.specs.Rows.{client_count, client_is_wide, client_event, thread_count, thread_is_wide, thread_line, map_event, map_line, odd_map, shown, request_count, request_event, read_event, reply_count, reply_is_wide, reply_of}
+use Rattle.trace_text.specs.EventLines.{Shown, is_small, is_wide, smalls, wides, AreInRange, IsInRange}
+use Rattle.trace_text.specs.Numbers.{LineNumbers, HasCounts, wide_of, Holds}
+use Rattle.trace_text.specs.Rows.{client_count, client_is_wide, client_event}
 use Rattle.trace_text.specs.Tails.{Says}
 
 -- numbers by their places, from i on

@@ -1,9 +1,9 @@
 -- Numbers at the front of a text, each behind a space.
-use Rattle.std.proofs.Common.{◌≡◌, ℕ, zero, suc, ◌+◌, ◌<◌, ◌≤◌, ◌∙◌, true, List, [], ◌∷◌, ◌++◌, length, map, drop, ap, refl, sym, arith}
+use Rattle.std.proofs.Common.{◌≡◌, ℕ, suc, ◌<◌, ◌≤◌, ◌∙◌, true, List, [], ◌∷◌, ◌++◌, length, drop, ap, refl, arith}
 use Rattle.split_types.specs.Lines.{numeral}
 use Rattle.split_types.specs.EventText.{numerals}
-use Rattle.workload_reader.specs.Fields.{ends_number, FieldAt, behind}
-use Rattle.workload_reader.proofs.Alike.{after_field, number_alike, cancel}
+use Rattle.workload_reader.specs.Fields.{ends_number, behind}
+use Rattle.workload_reader.proofs.Alike.{number_alike, cancel}
 use Rattle.workload_reader.specs.Fields.{NumberAt}
 
 -- no digit follows a number, if none follows the last one

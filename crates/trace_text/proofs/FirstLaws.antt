@@ -1,13 +1,12 @@
 -- The lines of a trace around those of its workload.
-use Rattle.std.proofs.Common.{◌≡◌, ◌≢◌, ℕ, zero, suc, ◌+◌, ◌<◌, ◌≤◌, ◌^◌, ◌==◌, ◌∙◌, Bool, true, false, not, List, [], ◌∷◌, ◌++◌, length, codes, if◌then◌else◌, Option, Some, None, ap, refl, sym, subst, arith, append_assoc, eq-eqb, eqb-true}
-use Rattle.std.proofs.lemmas.Bool.Decides.{nat_tests}
+use Rattle.std.proofs.Common.{◌≡◌, ◌≢◌, ℕ, zero, suc, ◌+◌, ◌<◌, ◌==◌, ◌∙◌, Bool, true, false, not, List, [], ◌∷◌, ◌++◌, codes, if◌then◌else◌, ap, refl, sym, subst, arith, append_assoc, eq-eqb, eqb-true}
 use Rattle.split_types.specs.Lines.{numeral, fields, line}
 use Rattle.split_types.specs.TraceText.{trace_version}
 use Rattle.split_types.proofs.Shared.{numeral_digit}
-use Rattle.workload_reader.specs.Fields.{FieldAt, Keeps, IsWithin}
+use Rattle.workload_reader.specs.Fields.{FieldAt, IsWithin}
 use Rattle.workload_reader.proofs.Alike.{cancel, after_field}
 use Rattle.workload_reader.proofs.HeadLaws.{fields_behind}
-use Rattle.trace_text.specs.TraceLines.{first_text, version_text, count_text, IsTraceVersion, FirstLine, StopsFirst, IsMispaired, Mispairs, CountAt}
+use Rattle.trace_text.specs.TraceLines.{first_text, version_text, count_text, IsTraceVersion, FirstLine, StopsFirst, IsMispaired, Mispairs}
 use Rattle.workload_reader.specs.declared.cause.Cause.{Cause}
 use Rattle.workload_reader.specs.declared.cause.Cause.TheVariants as cause
 use Rattle.workload_reader.specs.Refusal.{has_newline}
@@ -70,7 +69,7 @@ no_version {text} one two three version rest is e =
     (three rest)
 
 -- one version is said
-one_version : {text : List ℕ} (m n : ℕ) (x y : List ℕ) → m < 10 → n < 10 → text ≡ version_text m ++ x
+pub one_version : {text : List ℕ} (m n : ℕ) (x y : List ℕ) → m < 10 → n < 10 → text ≡ version_text m ++ x
     → text ≡ version_text n ++ y → m ≡ n
 one_version {text} m n x y small_m small_n is_m is_n =
     let same = cancel (codes "splitload ") (sym (version_is m x small_m) ∙ sym is_m ∙ is_n ∙ version_is n y small_n) in
@@ -100,7 +99,7 @@ pub no_mispairs : {text : List ℕ} (version : ℕ) → ((other : ℕ) (rest : L
 no_mispairs version none m = none m.other m.rest m.formed m.text_is
 
 -- the line of a count
-count_is : (n : ℕ) (rest : List ℕ) → count_text n ++ rest ≡ codes "events" ++ (32 ∷ numeral n ++ 10 ∷ rest)
+pub count_is : (n : ℕ) (rest : List ℕ) → count_text n ++ rest ≡ codes "events" ++ (32 ∷ numeral n ++ 10 ∷ rest)
 count_is n rest = append_assoc (codes "events") (fields (numeral n ∷ []) ++ 10 ∷ []) rest
     ∙ ap (λ l. codes "events" ++ l) (fields_behind (numeral n ∷ []) rest)
 

@@ -9,3 +9,10 @@ pub mod ReturnLaws
 pub mod EventsLaws
 pub mod FirstLaws
 pub mod TraceLaws
+pub mod Prints
+pub mod EventAlike
+pub mod EventsAlike
+pub mod PartsAlike
+pub mod RefusalLaws
+pub mod LegalLines
+pub mod TextLaws

@@ -9,7 +9,7 @@ use Rattle.split_types.specs.declared.request.ReqKind.TheVariants as kind
 use Rattle.split_types.specs.declared.event.Event.{Event}
 use Rattle.split_types.specs.declared.event.Event.TheVariants as event
 use Rattle.split_types.specs.Lines.{numeral, fields, line, actor_word}
-use Rattle.split_types.specs.EventText.{numerals, kind_word, subject, event_words, event_fields}
+use Rattle.split_types.specs.EventText.{numerals, kind_word, subject, event_fields}
 use Rattle.workload_reader.specs.Fields.{behind}
 use Rattle.workload_reader.proofs.Alike.{cancel}
 use Rattle.workload_reader.proofs.HeadLaws.{fields_behind}
@@ -124,7 +124,7 @@ rows =
     []
 
 -- the row as which the text begins
-row_at : List ℕ → Row
+pub row_at : List ℕ → Row
 row_at text = row_among rows text
 
 is_read : Row → Bool
@@ -210,7 +210,7 @@ added_back by (kind.Home t) n more is = row_back (Asks request.Home) _ refl
 added_back by (kind.Clear t) n more is = row_back (Asks request.Clear) _ refl
 
 -- a line begins as its row alone
-line_back : (adds : ℕ) (l : EventLine) (rest : List ℕ) → IsFormed adds l
+pub line_back : (adds : ℕ) (l : EventLine) (rest : List ℕ) → IsFormed adds l
     → row_at (head (row_of l) ++ tail l rest) ≡ row_of l
 unfolding is_read
 line_back adds (Shown (event.Enter by k)) rest formed = row_back (Client client.Enter) _ refl

@@ -1,5 +1,5 @@
 -- The lines of returns and completions, behind what they begin with.
-use Rattle.std.proofs.Common.{◌≡◌, ◌≢◌, ℕ, ◌==◌, ◌∙◌, Bool, true, false, ◌&&◌, List, [], ◌∷◌, ◌++◌, length, codes, if◌then◌else◌, Option, Some, None, ap, refl, sym, subst}
+use Rattle.std.proofs.Common.{◌≡◌, ◌≢◌, ℕ, ◌∙◌, Bool, List, [], ◌∷◌, ◌++◌, if◌then◌else◌, Option, ap, refl, sym, subst}
 use Rattle.split_types.specs.declared.ids.Pid.{Pid}
 use Rattle.split_types.specs.declared.ids.ReqId.{ReqId}
 use Rattle.split_types.specs.declared.call.Reply.{Reply}
@@ -9,21 +9,21 @@ use Rattle.split_types.specs.declared.request.ReqKind.TheVariants as kind
 use Rattle.split_types.specs.declared.event.Event.{Event}
 use Rattle.split_types.specs.declared.event.Event.TheVariants as event
 use Rattle.split_types.specs.Lines.{numeral}
-use Rattle.split_types.specs.EventText.{numerals, flag, reply_words}
-use Rattle.workload_reader.specs.Fields.{NumberAt, FieldAt, Keeps, behind}
+use Rattle.split_types.specs.EventText.{numerals, reply_words}
+use Rattle.workload_reader.specs.Fields.{NumberAt, FieldAt, behind}
 use Rattle.workload_reader.proofs.Alike.{cancel, after_field}
 use Rattle.trace_text.specs.declared.row.ReplyRow.{ReplyRow}
 use Rattle.trace_text.specs.declared.row.ReplyRow.TheVariants as answer
-use Rattle.trace_text.specs.EventLines.{EventLine, Shown, OddMap, reply_smalls, reply_wides, IsFormed, IsReplyInRange}
+use Rattle.trace_text.specs.EventLines.{EventLine, Shown, reply_smalls, reply_wides, IsFormed}
 use Rattle.trace_text.specs.Numbers.{LineNumbers, HasCounts, number_words}
-use Rattle.trace_text.specs.Rows.{Row, Returns, Completes, reply_head, reply_count, reply_is_wide, reply_of}
+use Rattle.trace_text.specs.Rows.{Returns, Completes, reply_head, reply_count, reply_is_wide, reply_of}
 use Rattle.trace_text.specs.Tails.{added_row, row_of, last_words, outcome_words, tail, Says}
 use Rattle.trace_text.proofs.ThreadEvents.{reply_smalls_are, reply_wides_are}
 use Rattle.trace_text.proofs.LineHeads.{starts}
-use Rattle.trace_text.proofs.TailLaws.{has_number, number_here, after_number}
+use Rattle.trace_text.proofs.TailLaws.{number_here, after_number}
 
 -- what an answer begins with
-answer_row : Reply → ReplyRow
+unfoldable pub answer_row : Reply → ReplyRow
 answer_row reply.Done = answer.Done
 answer_row (reply.Count n sum) = answer.Count
 answer_row reply.NoFile = answer.NoFile
@@ -34,7 +34,7 @@ answer_row (reply.NoSpace n) = answer.NoSpace
 answer_row reply.Stopped = answer.Stopped
 answer_row reply.ReadFault = answer.ReadFault
 
-answer_text : (r : Reply) (rest : List ℕ) → behind (reply_words r) rest ≡ reply_head (answer_row r)
+pub answer_text : (r : Reply) (rest : List ℕ) → behind (reply_words r) rest ≡ reply_head (answer_row r)
     ++ behind (number_words (reply_smalls r, reply_wides r)) rest
 unfolding answer_row
 answer_text reply.Done rest = refl
@@ -47,7 +47,7 @@ answer_text (reply.NoSpace n) rest = refl
 answer_text reply.Stopped rest = refl
 answer_text reply.ReadFault rest = refl
 
-answer_counts : (r : Reply) → HasCounts (reply_count (answer_row r)) (reply_is_wide (answer_row r)) (
+pub answer_counts : (r : Reply) → HasCounts (reply_count (answer_row r)) (reply_is_wide (answer_row r)) (
   reply_smalls r,
   reply_wides r,
 )
@@ -108,7 +108,7 @@ answer_back answer.Stopped rest = refl
 answer_back answer.ReadFault rest = refl
 
 -- no two answers begin alike
-answers_alike : (a b : ReplyRow) (x y : List ℕ) → reply_head a ++ x ≡ reply_head b ++ y → a ≡ b
+pub answers_alike : (a b : ReplyRow) (x y : List ℕ) → reply_head a ++ x ≡ reply_head b ++ y → a ≡ b
 answers_alike a b x y e = sym (answer_back a x) ∙ ap answer_at e ∙ answer_back b y
 
 -- a text that begins as no answer does
@@ -146,10 +146,10 @@ reply_text row text more last x is counts read =
     ∙ sym (answer_text r (10 ∷ last))
 
 -- a return, and a completion
-record IsReturn (l : EventLine) : Type 0 where
-  by : Pid
-  answer : Reply
-  line_is : l ≡ Shown (event.Ret by answer)
+pub record IsReturn (l : EventLine) : Type 0 where
+  pub by : Pid
+  pub answer : Reply
+  pub line_is : l ≡ Shown (event.Ret by answer)
 
 no_return : (k : ReqKind) → added_row k ≡ Returns → ⊥
 no_return (kind.Read p serial page) at = cc
@@ -159,7 +159,7 @@ no_return (kind.Commit t) at = cc
 no_return (kind.Home t) at = cc
 no_return (kind.Clear t) at = cc
 
-return_of_line : (l : EventLine) → row_of l ≡ Returns → IsReturn l
+pub return_of_line : (l : EventLine) → row_of l ≡ Returns → IsReturn l
 return_of_line (Shown (event.Ret by answer)) at = record { by = by; answer = answer; line_is = refl }
 return_of_line (Shown (event.Add by r)) at = absurd (no_return r.kind at)
 return_of_line l at = absurd (cc)
@@ -184,11 +184,11 @@ pub return_read : (text more last : List ℕ) (p most adds : ℕ) (r : Reply) (f
 return_read text more last p most adds r found read is says =
     (Shown (event.Ret (record { 0 = p }) r), tt, refl, read.text_is ∙ ap (λ m. numeral p ++ m) is, says)
 
-record IsCompletion (l : EventLine) : Type 0 where
-  k : ℕ
-  id : ReqId
-  ok : Bool
-  line_is : l ≡ Shown (event.Done k id ok)
+pub record IsCompletion (l : EventLine) : Type 0 where
+  pub k : ℕ
+  pub id : ReqId
+  pub ok : Bool
+  pub line_is : l ≡ Shown (event.Done k id ok)
 
 no_completion : (k : ReqKind) → added_row k ≡ Completes → ⊥
 no_completion (kind.Read p serial page) at = cc
@@ -198,7 +198,7 @@ no_completion (kind.Commit t) at = cc
 no_completion (kind.Home t) at = cc
 no_completion (kind.Clear t) at = cc
 
-completion_of_line : (l : EventLine) → row_of l ≡ Completes → IsCompletion l
+pub completion_of_line : (l : EventLine) → row_of l ≡ Completes → IsCompletion l
 completion_of_line (Shown (event.Done k id ok)) at = record { k = k; id = id; ok = ok; line_is = refl }
 completion_of_line (Shown (event.Add by r)) at = absurd (no_completion r.kind at)
 completion_of_line l at = absurd (cc)

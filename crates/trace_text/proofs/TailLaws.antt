@@ -1,39 +1,25 @@
 -- What is left of a line behind what it begins with.
-use Rattle.std.proofs.Common.{◌≡◌, ◌≢◌, ℕ, ◌+◌, ◌<◌, ◌≤◌, ◌==◌, ◌∙◌, Bool, true, false, ◌&&◌, List, [], ◌∷◌, ◌++◌, length, take, get_or, codes, if◌then◌else◌, Option, Some, None, Bor, ap, refl, sym, subst, arith}
+use Rattle.std.proofs.Common.{◌≡◌, ◌≢◌, ℕ, ◌∙◌, Bool, true, false, List, [], ◌∷◌, ◌++◌, Option, ap, refl, sym, subst}
 use Rattle.std.proofs.lemmas.Bool.{false≢true}
-use Rattle.std.proofs.lemmas.List.{get_or-take}
-use Rattle.std.specs.List.{list_all}
 use Rattle.split_types.specs.declared.ids.Pid.{Pid}
 use Rattle.split_types.specs.declared.actor.Actor.{Actor}
-use Rattle.split_types.specs.declared.actor.Actor.TheVariants as actor
-use Rattle.split_types.specs.declared.call.Reply.{Reply}
-use Rattle.split_types.specs.declared.call.Reply.TheVariants as reply
 use Rattle.split_types.specs.declared.request.ReqKind.{ReqKind}
 use Rattle.split_types.specs.declared.request.ReqKind.TheVariants as kind
-use Rattle.split_types.specs.declared.request.Request.{Request}
 use Rattle.split_types.specs.declared.event.Event.{Event}
 use Rattle.split_types.specs.declared.event.Event.TheVariants as event
-use Rattle.split_types.specs.Hooks.{maker}
 use Rattle.split_types.specs.Lines.{numeral}
-use Rattle.split_types.specs.EventText.{numerals, flag, subject, reply_words}
-use Rattle.workload_reader.specs.Fields.{ends_number, NumberAt, FieldAt, IsWithin, Keeps, behind, Reads as ReadsFields}
-use Rattle.workload_reader.proofs.Alike.{number_alike, cancel, after_field}
-use Rattle.trace_text.specs.declared.numbers.Numbers.{Numbers}
+use Rattle.split_types.specs.EventText.{numerals, subject}
+use Rattle.workload_reader.specs.Fields.{ends_number, NumberAt, behind}
+use Rattle.workload_reader.proofs.Alike.{number_alike}
 use Rattle.trace_text.specs.declared.row.ClientRow.{ClientRow}
 use Rattle.trace_text.specs.declared.row.ClientRow.TheVariants as client
 use Rattle.trace_text.specs.declared.row.ThreadRow.{ThreadRow}
-use Rattle.trace_text.specs.declared.row.ThreadRow.TheVariants as thread
-use Rattle.trace_text.specs.declared.row.RequestRow.{RequestRow}
-use Rattle.trace_text.specs.declared.row.RequestRow.TheVariants as request
-use Rattle.trace_text.specs.declared.row.ReplyRow.{ReplyRow}
-use Rattle.trace_text.specs.declared.row.ReplyRow.TheVariants as answer
-use Rattle.trace_text.specs.EventLines.{EventLine, Shown, OddMap, smalls, wides, reply_smalls, reply_wides, IsAskedBy, IsFormed, IsReplyInRange}
-use Rattle.trace_text.specs.Numbers.{small_or_none, LineNumbers, HasCounts, number_words, Holds}
-use Rattle.trace_text.specs.Rows.{Row, Client, Thread, Asks, Returns, Reads, Completes, client_count, client_is_wide, client_event, thread_count, thread_is_wide, thread_line, request_count, request_event, allows, reply_head, reply_count, reply_is_wide, reply_of}
-use Rattle.trace_text.specs.Tails.{added_row, row_of, actor_number, number_of, added_words, last_words, outcome_words, tail, Says, ReadsTail}
-use Rattle.trace_text.proofs.Fields.{numbers_alike}
+use Rattle.trace_text.specs.EventLines.{EventLine, Shown, OddMap, smalls, wides, IsAskedBy, IsFormed}
+use Rattle.trace_text.specs.Numbers.{LineNumbers, HasCounts, number_words}
+use Rattle.trace_text.specs.Rows.{Row, Client, Thread, Asks, Returns, Reads, Completes, client_count, client_is_wide, client_event, thread_count, thread_is_wide, thread_line, request_count}
+use Rattle.trace_text.specs.Tails.{added_row, row_of, actor_number, number_of, added_words, last_words, tail, Says}
 use Rattle.trace_text.proofs.ClientEvents.{client_smalls, client_wides, client_maker}
-use Rattle.trace_text.proofs.ThreadEvents.{thread_is_line, request_smalls}
+use Rattle.trace_text.proofs.ThreadEvents.{thread_is_line}
 
 -- an actor with a number is behind what a row begins with
 abbrev pub has_number : Row → Bool

@@ -1,13 +1,8 @@
 -- The events of threads, and answers, that numbers make.
-use Rattle.std.proofs.Common.{◌≡◌, ℕ, ◌+◌, ◌<◌, ◌≤◌, ◌==◌, ◌∙◌, Bool, true, false, List, [], ◌∷◌, length, get_or, if◌then◌else◌, Option, Some, None, ap, refl, sym, subst, arith, eqb-true}
+use Rattle.std.proofs.Common.{◌≡◌, ℕ, ◌≤◌, ◌==◌, ◌∙◌, Bool, true, false, List, [], ◌∷◌, length, get_or, if◌then◌else◌, Some, ap, refl, sym, subst, arith, eqb-true}
 use Rattle.std.proofs.lemmas.Bool.Decides.{nat_tests}
-use Rattle.split_types.specs.declared.ids.Pid.{Pid}
-use Rattle.split_types.specs.declared.actor.Actor.TheVariants as actor
-use Rattle.split_types.specs.declared.call.Reply.{Reply}
-use Rattle.split_types.specs.declared.event.Event.{Event}
 use Rattle.split_types.specs.EventText.{flag}
 use Rattle.workload_reader.specs.Fields.{Keeps, IsWithin}
-use Rattle.workload_reader.specs.Table.{IsActorOf}
 use Rattle.trace_text.specs.declared.numbers.Numbers.{Numbers}
 use Rattle.trace_text.specs.declared.row.ThreadRow.{ThreadRow}
 use Rattle.trace_text.specs.declared.row.ThreadRow.TheVariants as thread
@@ -15,9 +10,9 @@ use Rattle.trace_text.specs.declared.row.RequestRow.{RequestRow}
 use Rattle.trace_text.specs.declared.row.RequestRow.TheVariants as asked
 use Rattle.trace_text.specs.declared.row.ReplyRow.{ReplyRow}
 use Rattle.trace_text.specs.declared.row.ReplyRow.TheVariants as answer
-use Rattle.trace_text.specs.EventLines.{EventLine, Shown, OddMap, smalls, wides, reply_smalls, reply_wides, AreInRange, IsReplyInRange, IsFormed, IsInRange}
+use Rattle.trace_text.specs.EventLines.{EventLine, Shown, smalls, wides, reply_smalls, reply_wides, AreInRange, IsReplyInRange, IsFormed, IsInRange}
 use Rattle.trace_text.specs.Numbers.{LineNumbers, HasCounts, wide_of, Holds}
-use Rattle.trace_text.specs.Rows.{Row, Thread, thread_count, thread_is_wide, thread_line, map_event, map_line, odd_map, shown, request_count, request_event, read_event, reply_count, reply_is_wide, reply_of}
+use Rattle.trace_text.specs.Rows.{Thread, thread_count, thread_is_wide, thread_line, map_event, odd_map, shown, request_count, request_event, read_event, reply_count, reply_is_wide, reply_of}
 use Rattle.trace_text.specs.Tails.{row_of, number_of, Says}
 use Rattle.trace_text.proofs.ClientEvents.{from, all_of_them, in_range, out_of_range, smalls_are, wides_are, none_left}
 

@@ -1,5 +1,5 @@
 -- A whole trace, of what was read.
-use Rattle.std.proofs.Common.{◌≡◌, ◌≢◌, ◌⊎◌, inl, inr, ℕ, ◌+◌, ◌-◌, ◌<◌, ◌≤◌, ◌==◌, ◌^◌, ◌∙◌, Bool, true, false, List, [], ◌∷◌, ◌++◌, length, reverse, drop, codes, ap, refl, sym, subst, arith, length-append, append_assoc, eqb-true, eq-eqb, Result, Ok, Err, Bor}
+use Rattle.std.proofs.Common.{◌≡◌, ℕ, ◌+◌, ◌-◌, ◌<◌, ◌≤◌, ◌==◌, ◌∙◌, Bool, true, false, List, [], ◌∷◌, ◌++◌, length, reverse, drop, codes, ap, refl, sym, subst, arith, length-append, append_assoc, eqb-true, eq-eqb, Result, Ok, Err, Bor}
 use Rattle.std.proofs.Math.Seq.{drop-append_seam}
 use Rattle.std.proofs.lemmas.List.{append-nil, reverse-reverse, length-reverse}
 use Rattle.split_types.specs.declared.event.Event.{Event}
@@ -12,20 +12,17 @@ use Rattle.split_types.specs.WorkloadText.{workload_text}
 use Rattle.split_types.specs.TraceText.{trace_version, trace_text}
 use Rattle.workload_reader.specs.declared.cause.Cause.{Cause}
 use Rattle.workload_reader.specs.declared.cause.Cause.TheVariants as cause
-use Rattle.workload_reader.specs.declared.fault.LineFault.{LineFault}
 use Rattle.workload_reader.specs.declared.fault.ReadWorkload.{ReadWorkload}
 use Rattle.workload_reader.specs.declared.fault.ReadWorkload.TheVariants as fault
 use Rattle.workload_reader.specs.Front.{Fronts}
 use Rattle.workload_reader.proofs.FrontLaws.{line-some}
 use Rattle.trace_text.specs.declared.reading.TraceParts.{TraceParts}
 use Rattle.trace_text.specs.Reading.{ReadsTrace}
-use Rattle.workload_reader.specs.Fields.{IsWithin}
-use Rattle.workload_reader.specs.Refusal.{ReadsFront, RefusesFront}
+use Rattle.workload_reader.specs.Refusal.{ReadsFront}
 use Rattle.workload_reader.proofs.Sound.{spelled}
-use Rattle.trace_text.specs.TraceLines.{first_text, version_text, count_text, FirstLine, IsMispaired, CountLine, StopsFirst, StopsCount}
-use Rattle.trace_text.specs.ReadsEvent.{StopsEvent}
-use Rattle.trace_text.specs.Events.{HaveLines, EventsAt, EventRefused, ReadsEvents}
-use Rattle.trace_text.specs.ReadsTrace.{TraceAt, SpellsTrace, HeadAt, FrontAt, LineRefused, first_refused, version_refused, workload_refused, count_refused, event_refused, IsLongInside, RefusesTrace, ReadsHead, BodyAt, BodyRefused, at_count, at_event, ReadsBody}
+use Rattle.trace_text.specs.TraceLines.{first_text, version_text, count_text, IsMispaired, CountLine}
+use Rattle.trace_text.specs.Events.{ReadsEvents}
+use Rattle.trace_text.specs.ReadsTrace.{TraceAt, SpellsTrace, HeadAt, LineRefused, first_refused, version_refused, workload_refused, count_refused, event_refused, IsLongInside, RefusesTrace, ReadsHead, BodyAt, BodyRefused, at_count, at_event, ReadsBody}
 
 -- the lines of a workload are its text
 pub front_spelled : {body rest : List ℕ} {w : Workload} {lines : ℕ} → ReadsFront body w lines rest
@@ -35,11 +32,11 @@ front_spelled {body} {rest} {w} {lines} front =
     (subst IsAccepted front.said_is is.0, front.text_is ∙ ap (λ t. t ++ rest) (is.1 ∙ ap workload_text front.said_is))
 
 -- a text that begins with another
-record Begins (front text : List ℕ) : Type 0 where
-  more : List ℕ
-  text_is : text ≡ front ++ more
+pub record Begins (front text : List ℕ) : Type 0 where
+  pub more : List ℕ
+  pub text_is : text ≡ front ++ more
 
-begins_more : {front text : List ℕ} (more : List ℕ) → Begins front text → Begins front (text ++ more)
+pub begins_more : {front text : List ℕ} (more : List ℕ) → Begins front text → Begins front (text ++ more)
 begins_more {front} {text} more b = record {
   more = b.more ++ more;
   text_is = ap (λ t. t ++ more) b.text_is
@@ -47,7 +44,7 @@ begins_more {front} {text} more b = record {
 }
 
 -- a workload's text begins with its version
-workload_begins : (w : Workload) → Begins (version_text w.version) (workload_text w)
+pub workload_begins : (w : Workload) → Begins (version_text w.version) (workload_text w)
 workload_begins w =
     begins_more _
     (begins_more _
@@ -74,7 +71,7 @@ same_version version body rest w accepted is paired =
       }))
 
 -- the text of a trace, of the texts of its parts
-trace_parts : (w : Workload) (events : List Event) (rest : List ℕ) → trace_text w (reverse events) ++ rest
+pub trace_parts : (w : Workload) (events : List Event) (rest : List ℕ) → trace_text w (reverse events) ++ rest
     ≡ first_text (trace_version w.version) ++ (workload_text w
     ++ (count_text (length events) ++ (lines_of event_words events ++ rest)))
 trace_parts w events rest =
@@ -139,9 +136,12 @@ long_inside {text} {body} {last} {rest} {w} {lines} {events} head front b inside
     let is = front_spelled front in
     record {
       w = w;
+      lines = lines;
+      last = last;
       events = events;
       rest = rest;
-      trace = whole_trace head front b;
+      front = record { body = body; head = head; front = front };
+      body = b;
       long = omega (arith, inside, ap length is.1, length-append (workload_text w) last);
     }
 

@@ -7,3 +7,4 @@ pub mod TraceLines
 pub mod Events
 pub mod ReadsTrace
 pub mod Reading
+pub mod Laws

@@ -56,12 +56,22 @@ pub data LineRefused (text : List ℕ) (line : ℕ) (c : Cause) : Type 0 where
       → FrontAt text w lines rest
       → CountLine rest count events → EventRefused events (most_processes w) count before c → LineRefused text line c
 
--- a whole trace, of which the workload's lines are too long
+-- the number of events and the events, and what follows them
+pub record BodyAt (text : List ℕ) (most : ℕ) (events : List Event) (rest : List ℕ) : Type 0 where
+  pub count : ℕ
+  pub after : List ℕ
+  pub counted : CountLine text count after
+  pub read : EventsAt after most count events rest
+
+-- the lines of a whole trace, of which those of the workload are too long
 pub record IsLongInside (text : List ℕ) : Type 0 where
   pub w : Workload
+  pub lines : ℕ
+  pub last : List ℕ
   pub events : List Event
   pub rest : List ℕ
-  pub trace : TraceAt text w events rest
+  pub front : FrontAt text w lines last
+  pub body : BodyAt last (most_processes w) events rest
   pub long : 16777216 < length (workload_text w)
 
 -- the first refusal of a text: that it is too long; or that of a line; or that the workload is too long
@@ -76,13 +86,6 @@ abbrev pub ReadsHead : List ℕ → Result (Bor (List ℕ)) ReadWorkload → Typ
 ReadsHead text (Ok body) = HeadAt text body.now
 ReadsHead text (Err (fault.Line f)) = LineRefused text f.line f.cause
 ReadsHead text (Err fault.Memory) = Unit {0}
-
--- the number of events and the events, and what follows them
-pub record BodyAt (text : List ℕ) (most : ℕ) (events : List Event) (rest : List ℕ) : Type 0 where
-  pub count : ℕ
-  pub after : List ℕ
-  pub counted : CountLine text count after
-  pub read : EventsAt after most count events rest
 
 -- which of their lines is refused first, of which the first one has the number line
 pub data BodyRefused (text : List ℕ) (line most refused : ℕ) (c : Cause) : Type 0 where

@@ -1,5 +1,5 @@
 -- What lines begin with, and what they say by the numbers that follow.
-use Rattle.std.specs.Prelude.{◌≡◌, ◌≢◌, ℕ, ◌==◌, List, [], ◌∷◌, ◌++◌, codes, slice_index, Bool, true, false, if◌then◌else◌, Option, Some, None}
+use Rattle.std.specs.Prelude.{ℕ, ◌==◌, List, codes, slice_index, Bool, true, false, if◌then◌else◌, Option, Some, None}
 use Rattle.split_types.specs.declared.ids.Pid.{Pid}
 use Rattle.split_types.specs.declared.actor.Actor.{Actor}
 use Rattle.split_types.specs.declared.actor.Actor.TheVariants as actor

@@ -14,8 +14,8 @@ use Rattle.workload_reader.specs.Fields.{behind}
 use Rattle.trace_text.specs.declared.row.ClientRow.TheVariants as client
 use Rattle.trace_text.specs.declared.row.ThreadRow.TheVariants as thread
 use Rattle.trace_text.specs.declared.row.RequestRow.TheVariants as request
-use Rattle.trace_text.specs.EventLines.{EventLine, Shown, OddMap, text_line, smalls, IsFormed, IsInRange}
-use Rattle.trace_text.specs.Rows.{Row, Client, Thread, Asks, Returns, Reads, Completes, head}
+use Rattle.trace_text.specs.EventLines.{EventLine, Shown, OddMap, text_line, IsFormed, IsInRange}
+use Rattle.trace_text.specs.Rows.{Row, Client, Thread, Asks, Returns, Reads, Completes}
 
 abbrev pub added_row : ReqKind → Row
 added_row (kind.Read p serial page) = Reads
