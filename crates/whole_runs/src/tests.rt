@@ -1,4 +1,5 @@
 mod faults;
+mod made;
 mod runs;
 
 use outside::{MemSink, MemSource};
