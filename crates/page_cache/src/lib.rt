@@ -17,7 +17,8 @@
 //! grows with the logarithm of the number of places. The bytes of a page are copied where it is loaded and where
 //! it is taken out, and never else.
 //!
-//! Writeback, the clients' calls and the core stand on this crate.
+//! It is for a core that serves the clients' calls from pages and lets writeback take them out. No crate of the
+//! program uses it yet.
 #![tactic(auto)]
 
 mod bytes;
