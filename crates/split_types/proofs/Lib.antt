@@ -30,3 +30,6 @@ pub mod ShareLaws
 pub mod TagLaws
 pub mod BillLaws
 pub mod Numerals
+pub mod ByteLaws
+pub mod HeldLaws
+pub mod VictimLaws

@@ -38,3 +38,17 @@ pub mod LegalHistories
 pub mod Proving
 pub mod DiskLayout
 pub mod LiveFiles
+pub mod Reads
+pub mod HeldPages
+pub mod Victims
+pub mod FileSizes
+pub mod FileMaps
+pub mod FileSlots
+pub mod ServedRuns
+pub mod Failures
+pub mod PageBytes
+pub mod DiskBytes
+pub mod Pieces
+pub mod CacheExamples
+pub mod WorkedCaches
+pub mod WorkedFiles

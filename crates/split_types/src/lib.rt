@@ -3,14 +3,16 @@
 //! The types are those of a workload, of the events of its history, and of the facts that a report
 //! shows. The definitions stand in `specs/`, one file each: they look backwards through a history,
 //! which is a list with the newest event first. The contracts of the accessors say which buffers an
-//! event dirties and frees, and which actor makes it. The functions of `laws` do nothing: their
-//! contracts say what the definitions give in worked histories, and what they are in terms of places.
+//! event dirties and frees, and which actor makes it. The functions of `laws`, `draining` and `caching` do
+//! nothing: their contracts say what the definitions give in worked histories, what they are in terms of
+//! places, that draining ends, and that the pages of a cache are counted, evicted and filled as they should be.
 //!
-//! Every other crate stands on this one.
+//! All crates but those for streams and for structures over places (`outside`, `fixed_places`) stand on this one.
 #![tactic(auto)]
 
 mod actor;
 mod buf;
+mod caching;
 mod call;
 mod draining;
 mod event;
@@ -25,6 +27,9 @@ mod workload;
 
 pub use actor::Actor;
 pub use buf::{Buf, BufList};
+pub use caching::{
+    bytes_by_byte, pages_are_known, victims_are_oldest, worked_caches, worked_files,
+};
 pub use call::{Call, Reply};
 pub use draining::{drains_whole, never_stuck, plays_legal, stays_below};
 pub use event::Event;
