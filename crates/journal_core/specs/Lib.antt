@@ -1,0 +1,5 @@
+pub mod Causes
+pub mod Places
+pub mod Slots
+pub mod Work
+pub mod Journaled
