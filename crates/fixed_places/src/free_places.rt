@@ -1,5 +1,5 @@
 //! Which places are free.
-ghost use Rattle.std.specs.Prelude.{◌≡◌, ◌^◌, ◌<◌, ◌≤◌, ℕ, true, false, length, replicate, slice_set, slice_index_or, IfOk, count_by};
+ghost use Rattle.std.specs.Prelude.{◌≡◌, ◌^◌, ◌<◌, ◌≤◌, true, false, length, replicate, slice_set, slice_index_or, IfOk, count_by};
 
 use std::alloc::{AllocError, Global};
 use std::marker::Model;
@@ -52,14 +52,6 @@ impl FreePlaces {
         ensures { result ≡ count_by (λ taken. taken) self.now.taken }
     {
         self.count
-    }
-
-    /// No place from this one on was ever taken.
-    pub fn used(&self) -> usize
-        ensures within { result ≤ length self.now.taken }
-        ensures unused { (i : ℕ) → result ≤ i → slice_index_or self.now.taken i false ≡ false }
-    {
-        self.used
     }
 
     /// The free place that is taken next.

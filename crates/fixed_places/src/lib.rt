@@ -25,6 +25,3 @@ pub use key::Key;
 pub use least::Least;
 pub use recency::Recency;
 pub use table::Table;
-
-#[cfg(test)]
-mod tests;
