@@ -13,10 +13,8 @@ mod printer;
 mod sheet;
 
 pub use line::{
-    end_line, kind_word, put_actor, put_amount, put_digits, put_number, put_number_line, put_word,
+    end_line, kind_word, put_actor, put_amount, put_digits, put_lettered, put_number,
+    put_number_line, put_word,
 };
 pub use printer::Printer;
 pub use sheet::Sheet;
-
-#[cfg(test)]
-mod tests;

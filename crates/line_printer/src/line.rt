@@ -101,9 +101,9 @@ pub fn put_amount<P: Printer>(out: &mut P, n: i64)
     put_word(out, buffer.format(n).as_bytes());
 }
 
-/// Prints letters and a number.
+/// Prints letters and a number, with nothing between them.
 #[inline(always)]
-fn put_lettered<P: Printer>(out: &mut P, letters: &[u8], n: u32)
+pub fn put_lettered<P: Printer>(out: &mut P, letters: &[u8], n: u32)
     ensures { Puts P.due out.old out.new (letters.now ++ numeral n) }
 {
     out.put(letters);

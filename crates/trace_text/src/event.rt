@@ -5,7 +5,7 @@ ghost use Rattle.split_types.specs.Hooks.{maker};
 ghost use Rattle.split_types.specs.Lines.{numeral, fields, line, actor_word};
 ghost use Rattle.split_types.specs.EventText.{numerals, reply_words, kind_word, request_words, event_word, event_fields, event_words};
 
-use line_printer::{Printer, Sheet, end_line, put_actor, put_digits, put_number, put_word};
+use line_printer::{Printer, Sheet, end_line, put_actor, put_lettered, put_number, put_word};
 use split_types::{Event, Reply, ReqKind, Request};
 use std::alloc::{AllocError, Global};
 
@@ -118,15 +118,6 @@ fn put_outcome<P: Printer>(out: &mut P, id: u32, ok: bool)
 {
     put_number(out, u64::from(id));
     put_word(out, if ok { b"ok" } else { b"bad" })
-}
-
-/// Prints letters and a number.
-#[inline(always)]
-fn put_lettered<P: Printer>(out: &mut P, letters: &[u8], n: u32)
-    ensures { Puts P.due out.old out.new (letters.now ++ numeral n) }
-{
-    out.put(letters);
-    put_digits(out, u64::from(n));
 }
 
 /// Prints the first word of an event's line and its actor.
