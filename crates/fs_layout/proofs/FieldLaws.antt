@@ -1,9 +1,10 @@
 -- Fields of a block: numbers and zeros.
 use Rattle.std.proofs.Common.{◌≡◌, ℕ, zero, suc, ◌+◌, ◌-◌, ◌^◌, ◌<◌, ◌≤◌, Bool, true, false, IsTrue, List, [], ◌∷◌, ◌++◌, length, get_or, take, drop, set, refl, sym, ap, ◌∙◌, arith, add-one}
-use Rattle.std.specs.Prelude.{◌↔◌}
+use Rattle.std.specs.Prelude.{◌↔◌, ◌==◌, fold, max}
 use Rattle.std.specs.Int.{w32, from_le_bytes}
 use Rattle.std.proofs.Math.Seq.{take-add}
 use Rattle.std.proofs.lemmas.List.{drop_more, drop-replicate, length-replicate, replicate-append-replicate, drop-drop, ext_get_or, take_at, drop_at, take_all, take-append-drop, length-take-le, length-drop, length-append, append_assoc, append-nil, set-append_right}
+use Rattle.std.proofs.lemmas.Bool.{eqb-true, eq-eqb}
 use Rattle.std.proofs.lemmas.Nat.{le_bytes_4, from_le_bytes-to_le_bytes_4}
 use Rattle.split_types.specs.DiskLayout.{zeros, number}
 use Rattle.fs_layout.specs.Fields.{number_at, with_bytes}
@@ -37,6 +38,29 @@ pub zeros_from_all : (xs : List ℕ) (n : ℕ) → length xs ≡ n → ((i : ℕ
     → xs ≡ zeros n
 zeros_from_all xs n len all = ext_get_or 0 xs (zeros n) (len ∙ sym (length-zeros n)) (λ i within. all i within
     ∙ sym (get_or-zeros n i))
+
+-- the greatest byte is 0 exactly where each is
+greatest_from : (m : ℕ) (xs : List ℕ) → m ≤ fold max m xs
+greatest_from m [] = omega arith
+greatest_from m (x ∷ xs) = omega (arith, greatest_from (max m x) xs)
+
+none_greater : (m : ℕ) (xs : List ℕ) → fold max m xs ≡ 0 → (i : ℕ) → i < length xs → get_or xs i 0 ≡ 0
+none_greater m [] e i within = absurd (omega arith)
+none_greater m (x ∷ xs) e zero within = omega (arith, greatest_from (max m x) xs)
+none_greater m (x ∷ xs) e (suc i) within = none_greater (max m x) xs e i (omega arith)
+
+all_zero : (xs : List ℕ) → ((i : ℕ) → i < length xs → get_or xs i 0 ≡ 0) → fold max 0 xs ≡ 0
+all_zero [] each = refl
+all_zero (x ∷ xs) each =
+    ap (λ (m : ℕ). fold max m xs) (omega (arith, each 0 (omega arith)))
+    ∙ all_zero xs (λ i within. each (suc i) (omega arith))
+
+pub greatest_zero : (xs : List ℕ) (greatest : ℕ) → greatest ≡ fold max 0 xs
+    → IsTrue (greatest == 0) ↔ ((i : ℕ) → i < length xs → get_or xs i 0 ≡ 0)
+greatest_zero xs greatest e = (
+  λ is. none_greater 0 xs (sym e ∙ eqb-true greatest 0 is),
+  λ each. eq-eqb greatest 0 (e ∙ all_zero xs each),
+)
 
 -- ---- numbers
 

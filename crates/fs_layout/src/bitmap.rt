@@ -76,7 +76,7 @@ fn bits_of(alloc: Global, b: &[u8], count: u32) -> Result<Vec<bool>, AllocError>
 {
     let mut bits = Vec::with_capacity(alloc, count as usize)?;
     for i in 0..count {
-        bits.push(bit_of(b, i))?;
+        bits.push_reserved(bit_of(b, i));
     }
     Ok(bits)
 }

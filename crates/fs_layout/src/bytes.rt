@@ -1,5 +1,5 @@
 //! Numbers, bytes and zeros in a block.
-ghost use Rattle.std.specs.Prelude.{◌≡◌, ◌+◌, ◌-◌, ◌*◌, ◌^◌, ◌<◌, ◌≤◌, ◌++◌, ◌↔◌, length, take, drop, IsTrue, All, EachIndex, IfOk, slice_index, vec_len};
+ghost use Rattle.std.specs.Prelude.{◌≡◌, ◌+◌, ◌-◌, ◌*◌, ◌^◌, ◌<◌, ◌≤◌, ◌++◌, ◌↔◌, length, take, drop, fold, max, IsTrue, All, EachIndex, IfOk, slice_index, vec_len};
 ghost use Rattle.split_types.specs.DiskLayout.{zeros, number, numbers};
 ghost use Rattle.fs_layout.specs.Fields.{number_at, with_bytes};
 
@@ -23,11 +23,18 @@ fn begins_with(bytes: &[u8], front: &[u8]) -> bool
     bytes.starts_with(front)
 }
 
+/// The greatest of the bytes, 0 where there are none. No byte ends it early, so it takes many at a time.
+fn greatest(bytes: &[u8]) -> u8
+    ensures { result ≡ fold max 0 bytes.now }
+{
+    bytes.iter().fold(0u8, |greatest, byte| greatest.max(*byte))
+}
+
 /// Whether each byte is 0.
 fn are_zero(bytes: &[u8]) -> bool
     ensures { IsTrue result ↔ EachIndex bytes.now (λ i. slice_index bytes.now i ≡ 0) }
 {
-    bytes.iter().all(|byte| *byte == 0)
+    greatest(bytes) == 0
 }
 
 /// Whether all bytes between two places are 0.
@@ -98,7 +105,7 @@ pub(crate) fn numbers_at(
 {
     let mut values = Vec::with_capacity(alloc, count)?;
     for i in 0..count {
-        values.push(number_at(bytes, at + 4 * i))?;
+        values.push_reserved(number_at(bytes, at + 4 * i));
     }
     Ok(values)
 }

@@ -9,7 +9,8 @@
 //! [`put_inode`] and [`put_entry`] write an inode and an entry of the directory from parts, for what keeps files in
 //! memory, and [`BlockBits`] is a bitmap of which one bit changes at a time.
 //!
-//! The file system, the journal and recovery stand on this crate.
+//! `small_fs` stands on this crate. The readers, and the blocks of the journal, are for recovery after a crash; the
+//! program doesn't use them yet.
 #![tactic(auto)]
 
 mod bitmap;
@@ -26,6 +27,3 @@ pub use directory::{DirEntry, DirImage, put_entry, read_dir, write_dir};
 pub use inode::{InodeImage, put_inode, read_inode, write_inode};
 pub use journal::{Desc, read_commit, read_desc, write_commit, write_desc};
 pub use superblock::{SuperImage, read_super, write_super};
-
-#[cfg(test)]
-mod tests;

@@ -1,5 +1,5 @@
 -- The map of a file in memory: the block of each page, 0 where it has none.
-use Rattle.std.specs.Prelude.{◌≡◌, ℕ, zero, suc, ◌+◌, ◌^◌, ◌<◌, length, map, Option, Some, None}
+use Rattle.std.specs.Prelude.{◌≡◌, ℕ, zero, suc, ◌+◌, ◌^◌, ◌<◌, ◌≤◌, length, map, slice_index, Option, Some, None}
 use Rattle.split_types.specs.LiveFiles.{LiveFile}
 use Rattle.small_fs.specs.declared.file.File.TheInside.{Inside}
 
@@ -17,7 +17,8 @@ file_of f = record {
   blocks = map block_named f.pointers.items;
 }
 
--- the file has 1,008 pages, and the number one above its serial can be written
+-- the file has 1,008 pages, the number one above its serial can be written, and no page from one on has a block
 pub record IsFile (f : Inside) : Type 0 where
   pub pages : length f.pointers.items ≡ 1008
   pub serial : f.serial.0 + 1 < 2 ^ 32
+  pub unmapped : (page : ℕ) → f.mapped ≤ page → slice_index f.pointers.items page ≡ 0

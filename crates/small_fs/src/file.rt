@@ -18,6 +18,8 @@ pub(crate) struct File {
     disk_size: u32,
     // The block of each page, 0 where it has none.
     pointers: Vec<u32>,
+    // No page from here on has a block.
+    mapped: u32,
 }
 
 impl Model for File {
@@ -45,6 +47,7 @@ impl File {
             size: 0,
             disk_size: 0,
             pointers,
+            mapped: 0,
         }
     }
 
@@ -94,6 +97,7 @@ impl File {
     {
         let had = self.block(page);
         self.pointers[page as usize] = block;
+        self.mapped = self.mapped.max(page + 1);
         had
     }
 
@@ -102,6 +106,7 @@ impl File {
         ensures { result.items ≡ blocks_of self }
     {
         let mut blocks = self.pointers;
+        blocks.truncate(self.mapped as usize);
         blocks.retain(|block| *block != 0);
         blocks
     }

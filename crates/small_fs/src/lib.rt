@@ -7,9 +7,12 @@
 //! a buffer of metadata is at any time the spelling of the files as they are then.
 //!
 //! A name and a serial are found in a number of steps that is constant on average. Only `new`, `make` and `room` ask
-//! for memory; a file that is dropped hands out its blocks in the memory of its own map.
+//! for memory; a file that is dropped hands out its blocks in the memory of its own map, of which it walks what lies
+//! up to the last page with a block.
 //!
-//! The journal, writeback, the calls of clients and the core stand on this crate.
+//! It is for a machine whose calls make, write and drop files, and whose writeback and journal write metadata: `map_run`
+//! takes the run of blocks to which pages were written, `image` gives the blocks that a transaction logs. The program
+//! doesn't use it yet.
 #![tactic(auto)]
 
 mod file;
@@ -21,6 +24,3 @@ mod maps;
 mod uses;
 
 pub use fs::{Fs, MakeFault};
-
-#[cfg(test)]
-mod tests;

@@ -1,5 +1,3 @@
-use Rattle.std.proofs.Common.{◌≡◌, ap, length}
-use Rattle.std.specs.Prelude.{IfSome, List, ℕ}
 use Rattle.fs_layout.proofs.InodeLaws.{inode_pages}
 use Rattle.fs_layout.proofs.inode.write_inode.Goals as goal
 

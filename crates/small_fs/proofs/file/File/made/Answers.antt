@@ -1,8 +1,16 @@
-use Rattle.std.proofs.Common.{ℕ, List, Option, map, ap, ◌∙◌}
+use Rattle.std.proofs.Common.{ℕ, List, Option, map, ap, ◌∙◌, length, arith}
+use Rattle.std.proofs.lemmas.List.{length-replicate}
 use Rattle.split_types.specs.LiveFiles.{LiveFile}
 use Rattle.small_fs.specs.Pointers.{block_named}
-use Rattle.small_fs.proofs.PointerLaws.{named-none}
+use Rattle.small_fs.proofs.PointerLaws.{named-none, zeros_unmapped}
 use Rattle.small_fs.proofs.file.File.made.Goals as goal
+
+pub invariant_of-result : goal.invariant_of-result
+invariant_of-result c = record {
+  pages = ap length c.requires.map ∙ length-replicate {A = ℕ} 1008 0;
+  serial = omega (arith, c.requires.serial);
+  unmapped = λ page past. zeros_unmapped c.args.pointers.items c.requires.map page;
+}
 
 pub returns : goal.returns
 returns c =
