@@ -51,9 +51,9 @@ impl Core {
         requires { IsAccepted w }
         ensures { IfOk result (λ core. core ≡ record { workload = w; history = [] }) }
     {
+        let history = history_of(alloc, &w)?;
         let plan = Plan::new(alloc, &w)?;
         let parts = Parts::new(alloc, &w, &plan)?;
-        let history = history_of(alloc, &w)?;
         Ok(Core {
             workload: w,
             plan,

@@ -3,4 +3,3 @@ pub mod Refusals
 pub mod Replay
 pub mod Answers
 pub mod Outcome
-pub mod Ready

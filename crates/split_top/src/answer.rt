@@ -8,7 +8,6 @@ ghost use Rattle.split_types.specs.FactsOf.{facts_of};
 ghost use Rattle.split_types.specs.Legal.{drain, play, go_actors};
 ghost use Rattle.workload_reader.specs.Reading.{Reading};
 ghost use Rattle.split_top.specs.Answers.{Writes, WritesAnswer, Replies};
-ghost use Rattle.split_top.specs.Ready.{IsReady};
 ghost use Rattle.split_top.specs.Refusals.{refusal_text};
 ghost use Rattle.split_top.specs.Replay.{text_of, run_of};
 
@@ -91,25 +90,38 @@ fn send<K: Sink, L: Ledger>(
     out.finish()
 }
 
-/// All that is needed to write the run of a workload: the core that has made it, what a report shows of it,
-/// and a page to print on.
-fn prepare<L: Ledger>(
+/// The core that has made the run of a workload: first the turns that its `go` lines ask for, and then those that
+/// drain it.
+fn run<L: Ledger>(
     alloc: Global,
     workload: Workload,
     steps: &mut Steps<L>,
-) -> Result<(Core, Facts, Page), AllocError>
+) -> Result<Core, AllocError>
     requires accepted { IsAccepted workload }
-    ensures { IfOk result (λ r. IsReady workload r.0 r.1 r.2) }
+    ensures { IfOk result (λ core. core ≡ record { workload = workload; history = run_of workload }) }
 {
     let mut core = Core::new(alloc, workload)?;
     finish(&mut core, steps)?;
-    let facts = core.facts(alloc)?;
-    let page = Page::new(alloc)?;
-    Ok((core, facts, page))
+    Ok(core)
 }
 
-/// Runs a workload: first the turns that its `go` lines ask for, and then those that drain it; and writes
-/// what was done. All memory is taken before anything is written.
+/// Writes all that a core has done. All memory is taken before anything is written.
+fn write<K: Sink, L: Ledger>(
+    alloc: Global,
+    core: &Core,
+    sink: &mut K,
+    steps: &mut Steps<L>,
+) -> Result<(), Stop>
+    ensures { Writes (record { held = K.held; faults = K.faults; room = K.room }) sink.old sink.new
+        (text_of core.now.workload core.now.history) result }
+{
+    let facts = core.facts(alloc)?;
+    let mut page = Page::new(alloc)?;
+    send(core, &facts, &mut page, sink, steps)?;
+    Ok(())
+}
+
+/// Runs a workload, and writes what was done.
 fn replay<K: Sink, L: Ledger>(
     alloc: Global,
     workload: Workload,
@@ -124,9 +136,8 @@ fn replay<K: Sink, L: Ledger>(
         (text_of workload (run_of workload)) result }
 {
     let mut steps: Steps<L> = Steps::new(blank);
-    let (core, facts, mut page) = prepare(alloc, workload, &mut steps)?;
-    send(&core, &facts, &mut page, sink, &mut steps)?;
-    Ok(())
+    let core = run(alloc, workload, &mut steps)?;
+    write(alloc, &core, sink, &mut steps)
 }
 
 /// Writes the line that refuses an input.

@@ -1,7 +1,7 @@
 use split_types::{Account, Call, Go, Pid, Preset, Process, Sched};
 
 /// A line of a workload's text.
-#[derive(Clone, Copy, Debug)]
+#[derive(Clone, Copy)]
 pub(crate) enum Line {
     Version(u32),
     Device(u32),
