@@ -76,6 +76,3 @@ pub fn report(alloc: Global, f: &Facts, sched: Sched) -> Result<Vec<u8>, AllocEr
     put_report(&mut sheet, f, sched);
     sheet.finish()
 }
-
-#[cfg(test)]
-mod tests;

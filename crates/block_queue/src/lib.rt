@@ -6,13 +6,11 @@
 //! moves one request and leaves the others; memory is asked for by `add` alone, or by `room` before
 //! it.
 //!
-//! The schedulers, which pick what is sent, and the core stand on this crate.
+//! `sched_api` stands on this crate: a scheduler picks from the requests that wait which is sent next. The
+//! program doesn't use it yet.
 #![tactic(auto)]
 
 mod queue;
 mod waiting;
 
 pub use queue::Queue;
-
-#[cfg(test)]
-mod tests;

@@ -28,6 +28,3 @@ pub use members::Members;
 pub use plain::{PlainTag, PlainTags};
 pub use shares::{bill_of_parts, bills_add_up, share, share_of, shares_add_up};
 pub use tags::TagStore;
-
-#[cfg(test)]
-mod tests;

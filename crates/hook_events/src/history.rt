@@ -140,6 +140,3 @@ impl History {
         self.packed[i].event(&self.whole)
     }
 }
-
-#[cfg(test)]
-mod tests;

@@ -29,6 +29,3 @@ pub use source::{Failed, Source};
 pub use still::{StillSink, StillSource};
 pub use stream::{StreamSink, StreamSource};
 pub use whole::{InputFault, read_all, write_all};
-
-#[cfg(test)]
-mod tests;

@@ -67,6 +67,3 @@ pub fn blame<L: Ledger>(
     }
     Ok(causes)
 }
-
-#[cfg(test)]
-mod tests;

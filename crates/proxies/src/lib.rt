@@ -13,6 +13,3 @@ mod writeback;
 
 pub use commit::Commit;
 pub use writeback::Writeback;
-
-#[cfg(test)]
-mod tests;

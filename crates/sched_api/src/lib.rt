@@ -17,6 +17,3 @@ pub use choices::{earlier, eligible_write, oldest_read, oldest_write};
 pub use fifo::FifoSched;
 pub use sched::SplitSched;
 pub use view::SchedView;
-
-#[cfg(test)]
-mod tests;

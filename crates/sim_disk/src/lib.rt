@@ -9,7 +9,8 @@
 //! share one block, and blocks that were never written share the one block of zeros. Memory is asked for by
 //! `start`, or by `room` before it, and never by `finish`.
 //!
-//! The core and recovery stand on this crate.
+//! It is for a machine that sends its writes to a disk, and for recovery from what a crash leaves of it. The
+//! program doesn't use it yet.
 #![tactic(auto)]
 
 mod blocks;
@@ -18,6 +19,3 @@ mod runs;
 mod write;
 
 pub use disk::{Disk, Fate};
-
-#[cfg(test)]
-mod tests;

@@ -13,6 +13,3 @@ mod printer;
 
 pub use page::Page;
 pub use printer::SinkPrinter;
-
-#[cfg(test)]
-mod tests;

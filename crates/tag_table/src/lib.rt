@@ -17,6 +17,3 @@ mod set_key;
 mod table;
 
 pub use table::{Table, TableTag};
-
-#[cfg(test)]
-mod tests;

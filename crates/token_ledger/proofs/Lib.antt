@@ -3,4 +3,3 @@ mod ListLaws
 mod PlaceLaws
 mod StandingLaws
 mod BillLaws
-mod Samples

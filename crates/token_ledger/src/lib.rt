@@ -24,6 +24,3 @@ mod standing;
 pub use billing::bills_within_costs;
 pub use ledger::Ledger;
 pub use pair::Pair;
-
-#[cfg(test)]
-mod tests;

@@ -50,6 +50,16 @@ fn payers<L: Ledger>(core: &Core, place: usize, steps: &mut Steps<L>) -> u32 {
 
 /// What a step of process 1 does at first, how many turns make an event then, whether the history is drained
 /// after them, and how many processes pay for the request that its sixth event adds.
+fn stepped<L: Ledger>(
+    core: &mut Core,
+    steps: &mut Steps<L>,
+) -> Result<(Step, u32, bool, u32), AllocError> {
+    let first = core.step(Actor::Client(Pid(1)), steps)?;
+    let made = turns(core, steps)?;
+    Ok((first, made, core.drained(), payers(core, 5, steps)))
+}
+
+/// The same, of a new core.
 fn seen<L: Ledger>(alloc: Global, blank: Blank) -> Result<(Step, u32, bool, u32), AllocError>
     requires name { blank.name ≡ L.name }
     requires parts { blank.parts ≡ L.parts }
@@ -57,9 +67,37 @@ fn seen<L: Ledger>(alloc: Global, blank: Blank) -> Result<(Step, u32, bool, u32)
 {
     let mut steps: Steps<L> = Steps::new(blank);
     let mut core = before_any_event(alloc)?;
-    let first = core.step(Actor::Client(Pid(1)), &mut steps)?;
-    let made = turns(&mut core, &mut steps)?;
-    Ok((first, made, core.drained(), payers(&core, 5, &mut steps)))
+    stepped(&mut core, &mut steps)
+}
+
+/// The clock where the workload's turns are taken and the history is drained, and the workload's version.
+fn finished<L: Ledger>(
+    alloc: Global,
+    core: &mut Core,
+    steps: &mut Steps<L>,
+) -> Result<(u64, u32), AllocError> {
+    core.play(steps)?;
+    core.drain(steps)?;
+    let facts = core.facts(alloc)?;
+    Ok((facts.clock, core.workload().version))
+}
+
+/// The same, of a new core.
+fn played<L: Ledger>(alloc: Global, blank: Blank) -> Result<(u64, u32), AllocError>
+    requires name { blank.name ≡ L.name }
+    requires parts { blank.parts ≡ L.parts }
+    requires some { 0 < L.parts }
+{
+    let mut steps: Steps<L> = Steps::new(blank);
+    let mut core = before_any_event(alloc)?;
+    finished(alloc, &mut core, &mut steps)
+}
+
+#[test]
+fn a_workload_is_played_and_drained(rt: HostRuntime) -> Result<(), Fail> {
+    let shown = played::<Brand>(rt.alloc(), Blank::new(1))?;
+    assert_eq!(rt; shown, (52, 1));
+    Ok(())
 }
 
 #[test]

@@ -1,8 +1,9 @@
+use super::found;
 use split_types::{Event, ReqId};
 use std::alloc::Global;
 use std::test::Fail;
 use trace_text::{print_event, read_trace};
-use workload_reader::{generate, read_workload, write_workload};
+use workload_reader::{generate, read_front, read_workload, write_workload};
 
 /// One process overwrites the one page of a file; writeback has a turn when it has nothing to do.
 pub(super) const ONE: &str =
@@ -26,7 +27,7 @@ const BETWEEN: &str =
     end\n";
 
 /// The trace of its run, with the first line of the report.
-const RUN: &str =
+pub(super) const RUN: &str =
     "splittrace 1\nsplitload 1\ndevice 1024\ncache 64\ndepth 1\nsched fifo\naccount 1 0 0\n\
     proc 1 1 0\nproc 1 1 0\nfile a 1 65\ncall 1 write a 0 4096 66\ncall 2 write a 0 4096 67\n\
     go c1 4\ngo wb 2\ngo c2 4\nend\nevents 16\nenter c1 0\nadmit c1\nput c1 0 0 0 4096 66\n\
@@ -36,7 +37,7 @@ const RUN: &str =
 
 /// A text, read and written again.
 fn again(alloc: Global, text: &[u8]) -> Result<Vec<u8>, Fail> {
-    let workload = read_workload(alloc, text).ok().ok_or("a workload")?;
+    let workload = found(read_workload(alloc, text).ok())?;
     Ok(write_workload(alloc, &workload)?)
 }
 
@@ -44,6 +45,26 @@ fn again(alloc: Global, text: &[u8]) -> Result<Vec<u8>, Fail> {
 fn a_workload_is_read_and_written(rt: HostRuntime) -> Result<(), Fail> {
     let text = again(rt.alloc(), ONE.as_bytes())?;
     assert_eq!(rt; text.as_slice(), ONE.as_bytes());
+    Ok(())
+}
+
+/// Where the lines of a workload at the front of a text end, and the number of the next line.
+fn front(alloc: Global, text: &[u8]) -> Result<(usize, u32), Fail> {
+    if text.len() > 1000 {
+        return Err("too long".into());
+    }
+    let (_, rest, line) = found(read_front(alloc, text, 1).ok())?;
+    Ok((text.len() - rest.len(), line))
+}
+
+#[test]
+fn the_front_of_a_text_is_read(rt: HostRuntime) -> Result<(), Fail> {
+    let (end, line) = front(
+        rt.alloc(),
+        b"splitload 1\ndevice 1024\ncache 2\ndepth 1\nsched fifo\nend\nmore",
+    )?;
+    assert_eq!(rt; end, 55);
+    assert_eq!(rt; line, 7);
     Ok(())
 }
 
@@ -69,7 +90,7 @@ fn an_event_is_printed(rt: HostRuntime) -> Result<(), Fail> {
 
 /// How many events a trace has, and where it ends.
 fn extent(alloc: Global, text: &[u8]) -> Result<(usize, usize), Fail> {
-    let trace = read_trace(alloc, text).ok().ok_or("a trace")?;
+    let trace = found(read_trace(alloc, text).ok())?;
     Ok((trace.events.len(), trace.rest))
 }
 
@@ -83,8 +104,8 @@ fn a_trace_is_read(rt: HostRuntime) -> Result<(), Fail> {
 
 /// The workload of a trace, written, its last event, printed, and where the trace ends.
 fn parts(alloc: Global, text: &[u8]) -> Result<(Vec<u8>, Vec<u8>, usize), Fail> {
-    let trace = read_trace(alloc, text).ok().ok_or("a trace")?;
-    let last = trace.events.as_slice().last().ok_or("an event")?;
+    let trace = found(read_trace(alloc, text).ok())?;
+    let last = found(trace.events.as_slice().last())?;
     let line = print_event(alloc, last)?;
     Ok((write_workload(alloc, &trace.w)?, line, trace.rest))
 }

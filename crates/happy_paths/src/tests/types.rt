@@ -1,3 +1,4 @@
+use super::found;
 use split_types::{Actor, Buf, Event, List, Name, Pid, Serial, Slot, actor_of, dirties, frees};
 use std::test::Fail;
 
@@ -12,7 +13,7 @@ fn drop_of_a_file() -> Event {
 
 #[test]
 fn name_keeps_its_bytes(rt: HostRuntime) -> Result<(), Fail> {
-    let name = Name::new(b"a.b_c-9").ok_or("a name")?;
+    let name = found(Name::new(b"a.b_c-9"))?;
     assert_eq!(rt; name.as_slice(), b"a.b_c-9".as_slice());
     assert_eq!(rt; name.len(), 7);
     assert_eq!(rt; Name::new(b"A").is_none(), true);

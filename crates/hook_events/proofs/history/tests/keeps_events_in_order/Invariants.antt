@@ -1,4 +1,0 @@
-use Rattle.hook_events.proofs.history.tests.keeps_events_in_order.Given as goal
-
-abbrev pub ghosts-two_events : goal.ghosts-two_events
-ghosts-two_events g a = record { name = a.blank.name; parts = a.blank.parts }
