@@ -59,11 +59,8 @@ fn ones_below(word: u64, bits: u32) -> u32
     ensures value { result ≡ count_ones (word % 2 ^ min bits 64) }
     ensures bound { result ≤ 64 }
 {
-    if bits < 64 {
-        (word & ((1 << bits) - 1)).count_ones()
-    } else {
-        word.count_ones()
-    }
+    let mask = (1u128 << bits.min(64)) - 1;
+    (word & mask as u64).count_ones()
 }
 
 /// How many of the first processes have their marks.

@@ -12,7 +12,8 @@ fn share_among(cost: u64, rank: u64, len: u64) -> u64
     ensures { result ≡ share cost rank len }
 {
     let even = cost / len;
-    if rank < cost % len { even + 1 } else { even }
+    let left_over = cost - even * len;
+    if rank < left_over { even + 1 } else { even }
 }
 
 /// The share of the cost for the process of this rank among `len`, where the first ranks bear

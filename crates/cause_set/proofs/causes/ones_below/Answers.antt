@@ -3,9 +3,8 @@ use Rattle.std.proofs.Common.{◌≡◌, ◌*◌, ◌%◌, ◌^◌, min, refl, a
 use Rattle.std.proofs.lemmas.Nat.{one_shl, and_mask}
 use Rattle.cause_set.proofs.causes.ones_below.Goals as goal
 
-pub returns-then-bits-lt64-clause-value : goal.returns-then-bits-lt64-clause-value
-returns-then-bits-lt64-clause-value c =
-    let shift : 1 * 2 ^ c.args.bits % 18446744073709551616 ≡ 2 ^ c.args.bits =
-    one_shl c.args.bits 64 c.if-bits-lt64.true in
-    let within : min c.args.bits 64 ≡ c.args.bits = omega (arith, c.if-bits-lt64.true) in
-    rw (shift, and_mask c.args.word c.args.bits, within) refl
+pub returns-clause-value : goal.returns-clause-value
+returns-clause-value c =
+    let shift : 1 * 2 ^ c.min.result % 340282366920938463463374607431768211456 ≡ 2 ^ c.min.result =
+    one_shl c.min.result 128 (omega (arith, c.min.ensures)) in
+    rw (shift, and_mask c.args.word c.min.result, c.min.ensures) refl
