@@ -1,7 +1,7 @@
 -- Where no actor that is asked in turn has a next event, a legal history of an accepted workload is drained.
 use Rattle.std.proofs.Common.{◌≡◌, ℕ, zero, suc, ◌+◌, ◌==◌, ◌≤◌, List, [], ◌∷◌, ◌++◌, length, map, slice_get, option_map, Bool, true, false, not, ◌&&◌, Option, Some, None, refl, arith, ap, subst, sym, ◌∙◌, nat_lt, nat_le, inl, inr, if◌then◌else◌}
 use Rattle.std.specs.List.{range_with_len, list_any, list_all}
-use Rattle.std.proofs.lemmas.Bool.{and_from, and_right, eq-eqb, not_from_false, cases_lt, cases_Bool}
+use Rattle.std.proofs.lemmas.Bool.{and_from, and_right, eq-eqb, lt-ltb, not_from_false, cases_lt, cases_Bool}
 use Rattle.std.proofs.lemmas.Bool.Decides.{nat_tests}
 use Rattle.split_types.specs.declared.ids.Pid.{Pid}
 use Rattle.split_types.specs.declared.ids.Serial.{Serial}
@@ -189,7 +189,7 @@ none_queued w h accepted f empty none =
     (sym (picks_first w h accepted f) ∙ go (not (nat_lt (length (in_flight h)) w.depth)) (pick w h) room none)
   where
     room : not (nat_lt (length (in_flight h)) w.depth) ≡ false
-    room = rw (empty, accepted.built.depth) refl
+    room = rw empty (ap not (lt-ltb 0 w.depth accepted.workload.machine.depth_least))
 
     go : (b : Bool) (o : Option Request) → b ≡ false
         → ◌≡◌ {A = Option Event} (b ⇒ None ∣ elim o [ None ↦ None | Some r ↦ Some (send_of h r) ]) None → o ≡ None

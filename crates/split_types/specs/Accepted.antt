@@ -19,11 +19,10 @@ abbrev pub IsOverwrite : Workload → Call → Type 0
 IsOverwrite w (Write name off len fill) = OverwritesPages w name off len
 IsOverwrite w _ = ⊥
 
--- what is built so far: overwrites of whole pages of preset files, which all find room in the cache; one request in
--- flight, in the order of `fifo`, and none is done badly
+-- what is built so far: overwrites of whole pages of preset files, which all find room in the cache, in the order of
+-- `fifo`; no request is done badly
 pub record IsBuilt (w : Workload) : Type 0 where
   pub version : w.version ≡ 1
-  pub depth : w.depth ≡ 1
   pub sched : w.sched ≡ Fifo
   pub fails : w.fails ≡ []
   pub pages : preset_pages w + length w.procs ≤ w.cache

@@ -250,7 +250,7 @@ head_right w h =
             new = tt;
             few = tt;
             fits = tt;
-            built = h.built.depth;
+            built = tt;
           },
         ),
         tt,

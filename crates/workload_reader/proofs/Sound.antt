@@ -313,7 +313,6 @@ accepted w right =
       };
       built = record {
         version = version.3.built;
-        depth = depth.3.built;
         sched = sched.3.built;
         fails = none;
         pages = fs.pages;

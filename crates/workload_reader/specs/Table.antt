@@ -101,7 +101,6 @@ Fits w _ = Unit {0}
 -- what it asks for is built
 abbrev pub IsBuiltLine : Workload → Line → Type 0
 IsBuiltLine w (kind.Version n) = n ≡ 1
-IsBuiltLine w (kind.Depth n) = n ≡ 1
 IsBuiltLine w (kind.Sched s) = s ≡ Fifo
 IsBuiltLine w (kind.File f) = preset_pages w + f.pages + length w.procs ≤ w.cache
 IsBuiltLine w (kind.Call p c) = IsOverwrite w c

@@ -143,7 +143,6 @@ impl Seen {
     {
         match line {
             Line::Version(n) => *n == 1,
-            Line::Depth(n) => *n == 1,
             Line::Sched(sched) => matches!(sched, Sched::Fifo),
             Line::File(file) => self.has_room_for(file.pages),
             Line::Call(_, call) => self.is_overwrite(call),

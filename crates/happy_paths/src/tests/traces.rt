@@ -245,8 +245,8 @@ const FRONTS: [(u32, Cause, &str); 8] = [
     ),
     (
         5,
-        Cause::NotBuilt,
-        "splittrace 1\nsplitload 1\ndevice 1024\ncache 2\ndepth 2\n",
+        Cause::Range,
+        "splittrace 1\nsplitload 1\ndevice 1024\ncache 2\ndepth 17\n",
     ),
 ];
 

@@ -7,7 +7,7 @@ pub(super) struct Run {
     pub(super) output: &'static str,
 }
 
-pub(super) const RUNS: [Run; 7] = [
+pub(super) const RUNS: [Run; 8] = [
     Run {
         shows: "between two writers",
         input: "splitload 1\n\
@@ -56,6 +56,59 @@ pub(super) const RUNS: [Run; 7] = [
          made dn 2\n\
          made tk 0\n\
          clock 74\n\
+         end\n",
+    },
+    Run {
+        shows: "done the other way round",
+        input: "splitload 1\n\
+         device 1024\n\
+         cache 64\n\
+         depth 2\n\
+         sched fifo\n\
+         account 1 0 0\n\
+         proc 1 1 0\n\
+         proc 1 1 0\n\
+         file a 1 65\n\
+         file b 1 65\n\
+         call 1 write a 0 4096 66\n\
+         call 2 write b 0 4096 66\n\
+         go c1 4\n\
+         go c2 4\n\
+         go wb 4\n\
+         go dq 2\n\
+         go dn1 1\n\
+         end\n",
+        output: "events 16\n\
+         enter c1 0\n\
+         admit c1\n\
+         put c1 0 0 0 4096 66\n\
+         ret c1 done\n\
+         enter c2 0\n\
+         admit c2\n\
+         put c2 1 0 0 4096 66\n\
+         ret c2 done\n\
+         serve wb 0 0 1\n\
+         add wb pages 526 1 0 0\n\
+         serve wb 1 0 1\n\
+         add wb pages 527 1 1 0\n\
+         send dq 0 52\n\
+         send dq 1 2\n\
+         done dn1 1 ok\n\
+         done dn0 0 ok\n\
+         report 1\n\
+         requests 2\n\
+         req 0 pages 526 1 done 52 1:52\n\
+         req 1 pages 527 1 done 2 2:2\n\
+         proc 1 billed 52\n\
+         proc 2 billed 2\n\
+         made c1 4\n\
+         made c2 4\n\
+         made wb 4\n\
+         made cm 0\n\
+         made dq 2\n\
+         made dn 2\n\
+         made tk 0\n\
+         clock 54\n\
          end\n",
     },
     Run {

@@ -28,6 +28,11 @@ given-given-requires-clause-fits c =
     rw c.room.ensures.events (fits i.workload i.history.events
     (maker c.args.e.now) c.args.e.now c.self.invariant.accepted c.self.invariant.legal comes)
 
+pub note-requires-clause-stands : goal.note-requires-clause-stands
+note-requires-clause-stands c =
+    let i = c.self.inside in
+    rw c.room.ensures.events (c.room-2.ensures.stands i.workload i.history.events c.self.invariant.parts)
+
 pub note-requires-clause-fits : goal.note-requires-clause-fits
 note-requires-clause-fits c =
     let i = c.self.inside in
