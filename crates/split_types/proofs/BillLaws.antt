@@ -20,8 +20,8 @@ use Rattle.split_types.specs.Workloads.{processes}
 use Rattle.split_types.specs.Accepted.{IsAccepted}
 use Rattle.split_types.specs.Legal.{IsLegal}
 use Rattle.split_types.specs.LegalHistories.{IsBorneWhole, completions, BillsConserve, PartsAreTags}
-use Rattle.split_types.specs.Proving.Came.{Came}
-use Rattle.split_types.specs.Proving.Came.Came.{came_enter, came_admit, came_put, came_ret, came_serve, came_add, came_send, came_done}
+use Rattle.split_types.specs.Proving.Came.{Came, read_request}
+use Rattle.split_types.specs.Proving.Came.Came.{came_enter, came_admit, came_no_file, came_wrote, came_read, came_fault, came_put, came_get, came_zeros, came_evict, came_load, came_serve, came_add, came_send, came_done}
 use Rattle.split_types.specs.Proving.Known.{Known, AreOf}
 use Rattle.split_types.proofs.CameLaws.{came}
 use Rattle.split_types.proofs.KnownLaws.{known, flight_of}
@@ -149,8 +149,17 @@ once_next : (w : Workload) (h : List Event) (e : Event) → Known w h → Came w
     → AreDoneOnce (adds (h ▹ e)) (completions (h ▹ e)) (unfinished (h ▹ e))
 once_next w h e f (came_enter p c has out) o = o
 once_next w h e f (came_admit p c has in' out may) o = o
-once_next w h e f (came_put p name off len fill t writing left) o = o
-once_next w h e f (came_ret p name off len fill t writing all) o = o
+once_next w h e f (came_no_file p c admitted none) o = o
+once_next w h e f (came_wrote p name off len fill t working none) o = o
+once_next w h e f (came_read p name off len t working none) o = o
+once_next w h e f (came_fault p c t piece working left bad) o = o
+once_next w h e f (came_put p name off len fill t piece here may) o = o
+once_next w h e f (came_get p name off len t piece here held) o = o
+once_next w h e f (came_zeros p name off len t piece here absent none) o = o
+once_next w h e f (came_evict p c t piece here absent v k found) o = o
+once_next w h e f (came_load p c t piece here absent block at) o =
+    once_add (requests h) (unfinished h) (adds h) (completions h)
+    (read_request (adds h) p t piece.page block) f.waiting.left_of f.numbered.counted refl o
 once_next w h e f (came_serve t k idle found) o = o
 once_next w h e f (came_add run at) o =
     once_add (requests h) (unfinished h) (adds h) (completions h)

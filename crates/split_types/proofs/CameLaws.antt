@@ -1,7 +1,7 @@
 -- Every next event comes from one of the rows, and is made by the actor that was asked.
-use Rattle.std.proofs.Common.{◌≡◌, ℕ, ◌+◌, ◌-◌, List, length, slice_get, Bool, true, false, not, ◌&&◌, Option, Some, None, refl, arith, subst, nat_lt, nat_le, if◌then◌else◌}
-use Rattle.std.specs.Prelude.{find}
-use Rattle.std.proofs.lemmas.Bool.{not-true, not-false}
+use Rattle.std.proofs.Common.{◌≡◌, ℕ, List, length, slice_get, Bool, true, false, not, ◌&&◌, ◌||◌, Option, Some, None, refl, arith, subst, ap, option_map, nat_lt, nat_le, if◌then◌else◌}
+use Rattle.std.specs.Prelude.{find, is_none, IsTrue, IsFalse}
+use Rattle.std.proofs.lemmas.Bool.{not-true, not-false, or_left, or_right, not_from_false}
 use Rattle.std.proofs.lemmas.Bool.Decides.{nat_tests}
 use Rattle.std.proofs.lemmas.Option.{same_Some}
 use Rattle.split_types.specs.declared.ids.Pid.{Pid}
@@ -9,14 +9,14 @@ use Rattle.split_types.specs.declared.ids.Serial.{Serial}
 use Rattle.split_types.specs.declared.buf.Buf.{Buf}
 use Rattle.split_types.specs.declared.buf.Buf.TheVariants.{Page, Bitmap, Dir, Inode}
 use Rattle.split_types.specs.declared.call.Call.{Call}
-use Rattle.split_types.specs.declared.call.Call.TheVariants.{Creat, Write, Read, Fsync, Unlink}
+use Rattle.split_types.specs.declared.call.Call.TheVariants.{Write, Read}
 use Rattle.split_types.specs.declared.call.Reply.TheVariants as reply
 use Rattle.split_types.specs.declared.actor.Actor.{Actor}
 use Rattle.split_types.specs.declared.actor.Actor.TheVariants.{Client, Wb, Cm, Dq, Dn, Tk}
 use Rattle.split_types.specs.declared.request.Run.{Run}
 use Rattle.split_types.specs.declared.workload.Workload.{Workload}
 use Rattle.split_types.specs.declared.event.Event.{Event}
-use Rattle.split_types.specs.declared.event.Event.TheVariants.{Enter, Admit, Ret, Serve, Add, Done}
+use Rattle.split_types.specs.declared.event.Event.TheVariants.{Enter, Admit, Put, Get, Ret, Serve, Add, Done, Evict}
 use Rattle.split_types.specs.Rows.{◌⇒◌∣◌}
 use Rattle.split_types.specs.History.{adds}
 use Rattle.split_types.specs.Hooks.{maker}
@@ -24,13 +24,19 @@ use Rattle.split_types.specs.Requests.{in_flight}
 use Rattle.split_types.specs.Pages.{is_ready}
 use Rattle.split_types.specs.Workloads.{all_pages}
 use Rattle.split_types.specs.Calls.{returned, is_entered, is_admitted, moved, call_of}
-use Rattle.split_types.specs.Files.{bound_file}
 use Rattle.split_types.specs.Schedulers.{admits, pick}
-use Rattle.split_types.specs.Clients.{client_state, piece, next_of_client, next_of_call, next_of_admitted, next_of_write}
+use Rattle.split_types.specs.Reads.{is_loading, is_read_badly}
+use Rattle.split_types.specs.HeldPages.{is_held, is_full, is_unsettled, is_crowded}
+use Rattle.split_types.specs.Victims.{victim}
+use Rattle.split_types.specs.FileSizes.{working_file}
+use Rattle.split_types.specs.FileMaps.{mapped_block}
+use Rattle.split_types.specs.PageBytes.{sum_of_bytes}
+use Rattle.split_types.specs.Pieces.{Piece, is_whole, piece_left, got}
+use Rattle.split_types.specs.Clients.{piece_state, client_state, state_left, evict_of, next_of_absent, next_of_put, next_of_load, next_of_get, next_on_file, next_of_admitted, next_of_call, next_of_client}
 use Rattle.split_types.specs.Writeback.{service, served_run, run_length, request_for, next_serve, serve_from}
 use Rattle.split_types.specs.Next.{send_of, next}
-use Rattle.split_types.specs.Proving.Came.{Came, HasCall, IsWriting}
-use Rattle.split_types.specs.Proving.Came.Came.{came_enter, came_admit, came_put, came_ret, came_serve, came_add, came_send, came_done}
+use Rattle.split_types.specs.Proving.Came.{Came, HasCall, IsAdmitted, IsWorking, IsAtPiece, IsAbsent, read_request}
+use Rattle.split_types.specs.Proving.Came.Came.{came_enter, came_admit, came_no_file, came_wrote, came_read, came_fault, came_put, came_get, came_zeros, came_evict, came_load, came_serve, came_add, came_send, came_done}
 
 -- a row decides, or the rows below it do
 pub by_row : {A C : Type 0} (b : Bool) (x y e : A) → (b ⇒ x ∣ y) ≡ e → (b ≡ true → x ≡ e → C)
@@ -53,29 +59,198 @@ comes : (w : Workload) (h : List Event) (a : Actor) (d e : Event) → Came w h d
     → Comes w h a e
 comes w h a d e row made is = subst (Comes w h a) (same_Some d e is) (record { row = row; made = made })
 
--- ---- clients
-in_write : (w : Workload) (h : List Event) (p : Pid) (name : List ℕ) (off len fill : ℕ) (s : Serial) (e : Event)
-    → IsWriting w h p name off len fill s
-    → Some (next_of_write (client_state w h p) s off len fill) ≡ Some e → Comes w h (Client p) e
-in_write w h p name off len fill s e writing n =
-    by_row (nat_lt (moved h p.0) len) (piece p s (off + moved h p.0) (len - moved h p.0) fill) (Ret p reply.Done) e
-    (same_Some _ _ n)
-    (λ test is. subst (Comes w h (Client p)) is
-    (record { row = came_put p name off len fill s writing (grind (arith, nat_tests)); made = refl }))
-    (λ test is. subst (Comes w h (Client p)) is
-    (record { row = came_ret p name off len fill s writing (grind (arith, nat_tests)); made = refl }))
+-- ---- pieces
+-- of a page that isn't held, where the cache is full
+in_evict : (w : Workload) (h : List Event) (p : Pid) (c : Call) (serial : Serial) (piece : Piece) (e : Event)
+    → IsAtPiece w h p c serial piece → IsAbsent w h (Page serial piece.page) true → (v : Option Buf) → victim w h ≡ v
+    → evict_of p v ≡ Some e → Comes w h (Client p) e
+in_evict w h p c serial piece e here absent (Some (Page s g)) at is =
+    comes w h (Client p) (Evict p s g) e (came_evict p c serial piece here absent s g at) refl is
+in_evict w h p c serial piece e here absent v at is = absurd (cc)
 
-in_admitted : (w : Workload) (h : List Event) (p : Pid) (c : Call) (e : Event) → HasCall w h p c
-    → is_entered h p.0 ≡ true → is_admitted h p.0 ≡ true
+in_load : (w : Workload) (h : List Event) (p : Pid) (c : Call) (serial : Serial) (piece : Piece) (e : Event)
+    → IsAtPiece w h p c serial piece → IsAbsent w h (Page serial piece.page) false → (block : ℕ)
+    → mapped_block w h serial.0 piece.page ≡ Some block
+    → Some (Add (Client p) (read_request (adds h) p serial piece.page block)) ≡ Some e → Comes w h (Client p) e
+in_load w h p c serial piece e here absent block at is =
+    comes w h (Client p) (Add (Client p) (read_request (adds h) p serial piece.page block)) e
+    (came_load p c serial piece here absent block at) refl is
+
+calm : (u c : Bool) → (not u && c) ≡ false → (u || not c) ≡ true
+calm true c is = refl
+calm false true is = absurd (cc)
+calm false false is = refl
+
+-- of a write, in a page that isn't held, where a place is free
+in_absent : (w : Workload) (h : List Event) (p : Pid) (name : List ℕ) (off len fill : ℕ) (serial : Serial)
+    (piece : Piece) (e : Event) → IsAtPiece w h p (Write name off len fill) serial piece
+    → IsTrue (is_unsettled w h (Page serial piece.page) || not (is_crowded w h))
+    → IsAbsent w h (Page serial piece.page) false
+    → next_of_absent (piece_state w h p serial piece) fill ≡ Some e → Comes w h (Client p) e
+in_absent w h p name off len fill serial piece e here settles absent n =
+    by_row (is_whole piece) (Some (Put p serial piece.page piece.from piece.to fill)) _ (Some e) n
+    (λ whole is. put (or_left _ _ whole) is)
+    (λ part is. by_block (mapped_block w h serial.0 piece.page) refl is)
+  where
+    b : Buf
+    b = Page serial piece.page
+
+    put : IsTrue (is_whole piece || is_none (mapped_block w h serial.0 piece.page))
+        → Some (Put p serial piece.page piece.from piece.to fill) ≡ Some e → Comes w h (Client p) e
+    put known is =
+        comes w h (Client p) (Put p serial piece.page piece.from piece.to fill) e
+        (came_put p name off len fill serial piece here (record {
+          settles = settles;
+          room = or_right (is_held w h b) (not (is_full w h)) (not_from_false (is_full w h) absent.full);
+          known = or_right (is_held w h b) _ known;
+        })) refl is
+
+    by_block : (o : Option ℕ) → mapped_block w h serial.0 piece.page ≡ o
+        → (elim o [
+          | None ↦ Some (Put p serial piece.page piece.from piece.to fill)
+          | Some block ↦ Some (Add (Client p) (read_request (adds h) p serial piece.page block))
+        ]) ≡ Some e
+        → Comes w h (Client p) e
+    by_block None at is = put (or_right (is_whole piece) _ (ap is_none at)) is
+    by_block (Some block) at is =
+        in_load w h p (Write name off len fill) serial piece e here absent block at is
+
+in_put : (w : Workload) (h : List Event) (p : Pid) (name : List ℕ) (off len fill : ℕ) (serial : Serial)
+    (piece : Piece) (e : Event) → IsWorking w h p (Write name off len fill) serial
+    → piece_left w h p.0 ≡ Some piece → next_of_put (piece_state w h p serial piece) fill ≡ Some e
+    → Comes w h (Client p) e
+in_put w h p name off len fill serial piece e working left n =
+    by_row (is_read_badly h p.0 b) (Some (Ret p reply.ReadFault)) _ (Some e) n
+    (λ bad is. comes w h (Client p) (Ret p reply.ReadFault) e
+    (came_fault p (Write name off len fill) serial piece working left bad) refl is)
+    (λ well rest. by_row (is_loading w h b) None _ (Some e) rest
+    (λ loading is. absurd (cc))
+    (λ there is. at_page (record { working = working; left = left; well = well; there = there }) is))
+  where
+    b : Buf
+    b = Page serial piece.page
+
+    at_page : IsAtPiece w h p (Write name off len fill) serial piece
+        → (not (is_unsettled w h b) && is_crowded w h ⇒ None
+        ∣ is_held w h b ⇒ Some (Put p serial piece.page piece.from piece.to fill)
+        ∣ is_full w h ⇒ evict_of p (victim w h)
+        ∣ next_of_absent (piece_state w h p serial piece) fill) ≡ Some e
+        → Comes w h (Client p) e
+    at_page here next =
+        by_row (not (is_unsettled w h b) && is_crowded w h) None _ (Some e) next
+        (λ waits is. absurd (cc))
+        (λ goes rest. by_row (is_held w h b) (Some (Put p serial piece.page piece.from piece.to fill)) _ (Some e) rest
+        (λ held is. comes w h (Client p) (Put p serial piece.page piece.from piece.to fill) e
+        (came_put p name off len fill serial piece here (record {
+          settles = calm (is_unsettled w h b) (is_crowded w h) goes;
+          room = or_left (is_held w h b) _ held;
+          known = or_left (is_held w h b) _ held;
+        })) refl is)
+        (λ absent below. by_row (is_full w h) (evict_of p (victim w h)) _ (Some e) below
+        (λ full is. in_evict w h p (Write name off len fill) serial piece e here
+        (record { absent = absent; full = full }) (victim w h) refl is)
+        (λ roomy is. in_absent w h p name off len fill serial piece e here
+        (calm (is_unsettled w h b) (is_crowded w h) goes) (record { absent = absent; full = roomy }) is)))
+
+in_get : (w : Workload) (h : List Event) (p : Pid) (name : List ℕ) (off len : ℕ) (serial : Serial) (piece : Piece)
+    (e : Event) → IsWorking w h p (Read name off len) serial → piece_left w h p.0 ≡ Some piece
+    → next_of_get (piece_state w h p serial piece) ≡ Some e → Comes w h (Client p) e
+in_get w h p name off len serial piece e working left n =
+    by_row (is_read_badly h p.0 b) (Some (Ret p reply.ReadFault)) _ (Some e) n
+    (λ bad is. comes w h (Client p) (Ret p reply.ReadFault) e
+    (came_fault p (Read name off len) serial piece working left bad) refl is)
+    (λ well rest. by_row (is_loading w h b) None _ (Some e) rest
+    (λ loading is. absurd (cc))
+    (λ there is. at_page (record { working = working; left = left; well = well; there = there }) is))
+  where
+    b : Buf
+    b = Page serial piece.page
+
+    got_sum : ℕ
+    got_sum = sum_of_bytes w h serial piece.page piece.from piece.to
+
+    by_block : IsAtPiece w h p (Read name off len) serial piece → IsFalse (is_held w h b) → (o : Option ℕ)
+        → mapped_block w h serial.0 piece.page ≡ o
+        → (elim o [
+          | None ↦ Some (Get p serial piece.page piece.from piece.to 0)
+          | Some block ↦ next_of_load (piece_state w h p serial piece) block
+        ]) ≡ Some e
+        → Comes w h (Client p) e
+    by_block here absent None at is =
+        comes w h (Client p) (Get p serial piece.page piece.from piece.to 0) e
+        (came_zeros p name off len serial piece here absent at) refl is
+    by_block here absent (Some block) at next =
+        by_row (is_full w h) (evict_of p (victim w h)) _ (Some e) next
+        (λ full is. in_evict w h p (Read name off len) serial piece e here
+        (record { absent = absent; full = full }) (victim w h) refl is)
+        (λ roomy is. in_load w h p (Read name off len) serial piece e here
+        (record { absent = absent; full = roomy }) block at is)
+
+    at_page : IsAtPiece w h p (Read name off len) serial piece
+        → (is_held w h b ⇒ Some (Get p serial piece.page piece.from piece.to got_sum)
+        ∣ elim (mapped_block w h serial.0 piece.page) [
+          | None ↦ Some (Get p serial piece.page piece.from piece.to 0)
+          | Some block ↦ next_of_load (piece_state w h p serial piece) block
+        ]) ≡ Some e
+        → Comes w h (Client p) e
+    at_page here next =
+        by_row (is_held w h b) (Some (Get p serial piece.page piece.from piece.to got_sum)) _ (Some e) next
+        (λ held is. comes w h (Client p) (Get p serial piece.page piece.from piece.to got_sum) e
+        (came_get p name off len serial piece here held) refl is)
+        (λ absent is. by_block here absent (mapped_block w h serial.0 piece.page) refl is)
+
+-- ---- calls
+in_write : (w : Workload) (h : List Event) (p : Pid) (name : List ℕ) (off len fill : ℕ) (serial : Serial) (e : Event)
+    → IsWorking w h p (Write name off len fill) serial → (o : Option Piece) → piece_left w h p.0 ≡ o
+    → (elim (option_map (piece_state w h p serial) o) [
+      | None ↦ Some (Ret p reply.Done)
+      | Some s ↦ next_of_put s fill
+    ]) ≡ Some e
+    → Comes w h (Client p) e
+in_write w h p name off len fill serial e working None left is =
+    comes w h (Client p) (Ret p reply.Done) e (came_wrote p name off len fill serial working left) refl is
+in_write w h p name off len fill serial e working (Some piece) left is =
+    in_put w h p name off len fill serial piece e working left is
+
+in_read : (w : Workload) (h : List Event) (p : Pid) (name : List ℕ) (off len : ℕ) (serial : Serial) (e : Event)
+    → IsWorking w h p (Read name off len) serial → (o : Option Piece) → piece_left w h p.0 ≡ o
+    → (elim (option_map (piece_state w h p serial) o) [
+      | None ↦ Some (Ret p (reply.Count (moved h p.0) (got h p.0)))
+      | Some s ↦ next_of_get s
+    ]) ≡ Some e
+    → Comes w h (Client p) e
+in_read w h p name off len serial e working None left is =
+    comes w h (Client p) (Ret p (reply.Count (moved h p.0) (got h p.0))) e
+    (came_read p name off len serial working left) refl is
+in_read w h p name off len serial e working (Some piece) left is =
+    in_get w h p name off len serial piece e working left is
+
+on_file : (w : Workload) (h : List Event) (p : Pid) (c : Call) (serial : Serial) (e : Event)
+    → IsWorking w h p c serial → next_on_file (client_state w h p) c ≡ Some e → Comes w h (Client p) e
+on_file w h p (Write name off len fill) serial e working n =
+    in_write w h p name off len fill serial e working (piece_left w h p.0) refl
+    (subst (λ o. (elim (state_left w h p o) [
+      | None ↦ Some (Ret p reply.Done)
+      | Some s ↦ next_of_put s fill
+    ]) ≡ Some e) working.file n)
+on_file w h p (Read name off len) serial e working n =
+    in_read w h p name off len serial e working (piece_left w h p.0) refl
+    (subst (λ o. (elim (state_left w h p o) [
+      | None ↦ Some (Ret p (reply.Count (moved h p.0) (got h p.0)))
+      | Some s ↦ next_of_get s
+    ]) ≡ Some e) working.file n)
+on_file w h p c serial e working n = absurd (cc)
+
+in_admitted : (w : Workload) (h : List Event) (p : Pid) (c : Call) (e : Event) → IsAdmitted w h p c
     → next_of_admitted (client_state w h p) c ≡ Some e → Comes w h (Client p) e
-in_admitted w h p (Creat name) e has en ad n = absurd (cc)
-in_admitted w h p (Read name off len) e has en ad n = absurd (cc)
-in_admitted w h p (Fsync name) e has en ad n = absurd (cc)
-in_admitted w h p (Unlink name) e has en ad n = absurd (cc)
-in_admitted w h p (Write name off len fill) e has en ad n =
-    by_some (bound_file w h p.0) (λ s. Some (next_of_write (client_state w h p) s off len fill)) e n
-    (λ s file is. in_write w h p name off len fill s e
-    (record { has = has; entered = en; admitted = ad; file = file }) is)
+in_admitted w h p c e admitted n = by_file (working_file w h p.0) refl n
+  where
+    by_file : (o : Option Serial) → working_file w h p.0 ≡ o
+        → (elim o [ None ↦ Some (Ret p reply.NoFile) | Some serial ↦ next_on_file (client_state w h p) c ]) ≡ Some e
+        → Comes w h (Client p) e
+    by_file None file is =
+        comes w h (Client p) (Ret p reply.NoFile) e (came_no_file p c admitted file) refl is
+    by_file (Some serial) file is = on_file w h p c serial e (record { admitted = admitted; file = file }) is
 
 in_call : (w : Workload) (h : List Event) (p : Pid) (c : Call) (e : Event) → HasCall w h p c
     → next_of_call (client_state w h p) c ≡ Some e → Comes w h (Client p) e
@@ -90,7 +265,8 @@ in_call w h p c e has n =
     (λ out is. by_test (admits w h p.0) refl is
     (λ may same. comes w h (Client p) (Admit p) e (came_admit p c has (not-false _ inside) (not-true _ out) may) refl
     same))
-    (λ admitted is. in_admitted w h p c e has (not-false _ inside) (not-false _ admitted) is))
+    (λ admitted is. in_admitted w h p c e
+    (record { has = has; entered = not-false _ inside; admitted = not-false _ admitted }) is))
   where
     by_test : {C : Type 0} (b : Bool) → admits w h p.0 ≡ b → (if b then Some (Admit p) else None) ≡ Some e
         → (admits w h p.0 ≡ true → Some (Admit p) ≡ Some e → C) → C

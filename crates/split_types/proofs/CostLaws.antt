@@ -3,9 +3,12 @@ use Rattle.std.proofs.Common.{◌≡◌, ℕ, ◌==◌, ◌<◌, List, [], lengt
 use Rattle.std.proofs.lemmas.Bool.{cases_order, cond-true, cond-false, eq-eqb, ne_eqb}
 use Rattle.std.proofs.lemmas.Option.{same_Some}
 use Rattle.split_types.specs.declared.ids.ReqId.{ReqId}
+use Rattle.split_types.specs.declared.actor.Actor.{Actor}
+use Rattle.split_types.specs.declared.actor.Actor.TheVariants.{Client, Wb}
+use Rattle.split_types.specs.declared.request.Request.{Request}
 use Rattle.split_types.specs.declared.workload.Workload.{Workload}
 use Rattle.split_types.specs.declared.event.Event.{Event}
-use Rattle.split_types.specs.declared.event.Event.TheVariants.{Send}
+use Rattle.split_types.specs.declared.event.Event.TheVariants.{Add, Send}
 use Rattle.split_types.specs.History.{◌▹◌, adds, event_at}
 use Rattle.split_types.specs.Hooks.{maker}
 use Rattle.split_types.specs.Requests.{is_numbered, queued}
@@ -14,8 +17,8 @@ use Rattle.split_types.specs.Writeback.{request_for}
 use Rattle.split_types.specs.Accepted.{IsAccepted}
 use Rattle.split_types.specs.Legal.{IsLegal}
 use Rattle.split_types.specs.LegalHistories.{SendsShowCosts}
-use Rattle.split_types.specs.Proving.Came.{Came}
-use Rattle.split_types.specs.Proving.Came.Came.{came_enter, came_admit, came_put, came_ret, came_serve, came_add, came_send, came_done}
+use Rattle.split_types.specs.Proving.Came.{Came, read_request}
+use Rattle.split_types.specs.Proving.Came.Came.{came_enter, came_admit, came_no_file, came_wrote, came_read, came_fault, came_put, came_get, came_zeros, came_evict, came_load, came_serve, came_add, came_send, came_done}
 use Rattle.split_types.specs.Proving.Known.{Known}
 use Rattle.split_types.proofs.CameLaws.{came}
 use Rattle.split_types.proofs.History.{event_at-new, event_at-stays, event_at-within}
@@ -27,6 +30,24 @@ pub record IsSent (h : List Event) (id : ReqId) (cost : ℕ) : Type 0 where
   pub below : id.0 < adds h
   pub gone : count_by (is_numbered id) (queued h) ≡ 0
   pub shown : cost_of h id.0 ≡ cost
+
+-- a request that is added later doesn't queue it again
+sent_add : (w : Workload) (h : List Event) (by : Actor) (r : Request) (id : ReqId) (cost : ℕ) → r.id.0 ≡ adds h
+    → IsSent h id cost → IsSent (h ▹ Add by r) id cost
+sent_add w h by r id cost numbered s = record {
+  below = omega (arith, s.below);
+  gone =
+      omega (
+        arith,
+        count_push (is_numbered id) (queued h) r,
+        other (r.id.0 == id.0) (ne_eqb r.id.0 id.0 (λ (e : r.id.0 ≡ id.0). omega (arith, s.below, numbered))),
+        s.gone,
+      );
+  shown = s.shown;
+}
+  where
+    other : (b : Bool) → b ≡ false → ◌≡◌ {A = ℕ} (cond b 1 0) 0
+    other b is = rw is refl
 
 sent_next : (w : Workload) (h : List Event) (e : Event) (id : ReqId) (cost : ℕ) → IsAccepted w → Known w h
     → Came w h e → IsSent h id cost → IsSent (h ▹ e) id cost
@@ -40,12 +61,42 @@ sent_next w h e id cost accepted f (came_admit p c has in' out may) s = record {
   gone = s.gone;
   shown = s.shown;
 }
-sent_next w h e id cost accepted f (came_put p name off len fill t writing left) s = record {
+sent_next w h e id cost accepted f (came_no_file p c admitted none) s = record {
   below = s.below;
   gone = s.gone;
   shown = s.shown;
 }
-sent_next w h e id cost accepted f (came_ret p name off len fill t writing all) s = record {
+sent_next w h e id cost accepted f (came_wrote p name off len fill t working none) s = record {
+  below = s.below;
+  gone = s.gone;
+  shown = s.shown;
+}
+sent_next w h e id cost accepted f (came_read p name off len t working none) s = record {
+  below = s.below;
+  gone = s.gone;
+  shown = s.shown;
+}
+sent_next w h e id cost accepted f (came_fault p c t piece working left bad) s = record {
+  below = s.below;
+  gone = s.gone;
+  shown = s.shown;
+}
+sent_next w h e id cost accepted f (came_put p name off len fill t piece here may) s = record {
+  below = s.below;
+  gone = s.gone;
+  shown = s.shown;
+}
+sent_next w h e id cost accepted f (came_get p name off len t piece here held) s = record {
+  below = s.below;
+  gone = s.gone;
+  shown = s.shown;
+}
+sent_next w h e id cost accepted f (came_zeros p name off len t piece here absent none) s = record {
+  below = s.below;
+  gone = s.gone;
+  shown = s.shown;
+}
+sent_next w h e id cost accepted f (came_evict p c t piece here absent v k found) s = record {
   below = s.below;
   gone = s.gone;
   shown = s.shown;
@@ -56,20 +107,10 @@ sent_next w h e id cost accepted f (came_serve t k idle found) s = record {
   shown = s.shown;
 }
 sent_next w h e id cost accepted f (came_done k r at) s = record { below = s.below; gone = s.gone; shown = s.shown }
-sent_next w h e id cost accepted f (came_add run at) s = record {
-  below = omega (arith, s.below);
-  gone =
-      omega (
-        arith,
-        count_push (is_numbered id) (queued h) (request_for w (adds h) run),
-        other (adds h == id.0) (ne_eqb (adds h) id.0 (λ (e : adds h ≡ id.0). omega (arith, s.below))),
-        s.gone,
-      );
-  shown = s.shown;
-}
-  where
-    other : (b : Bool) → b ≡ false → ◌≡◌ {A = ℕ} (cond b 1 0) 0
-    other b is = rw is refl
+sent_next w h e id cost accepted f (came_load p c t piece here absent block at) s =
+    sent_add w h (Client p) (read_request (adds h) p t piece.page block) id cost refl s
+sent_next w h e id cost accepted f (came_add run at) s =
+    sent_add w h Wb (request_for w (adds h) run) id cost refl s
 sent_next w h e id cost accepted f (came_send r free picked) s =
     let there = picked_there w h r accepted picked
     in let apart : (id.0 ≡ r.id.0 → ⊥) =

@@ -10,7 +10,7 @@ use Rattle.split_types.specs.declared.ids.Serial.{Serial}
 use Rattle.split_types.specs.declared.buf.Buf.{Buf}
 use Rattle.split_types.specs.declared.buf.Buf.TheVariants.{Page, Bitmap, Dir, Inode}
 use Rattle.split_types.specs.declared.actor.Actor.{Actor}
-use Rattle.split_types.specs.declared.actor.Actor.TheVariants.{Wb}
+use Rattle.split_types.specs.declared.actor.Actor.TheVariants.{Client, Wb}
 use Rattle.split_types.specs.declared.request.Request.{Request}
 use Rattle.split_types.specs.declared.request.Run.{Run}
 use Rattle.split_types.specs.declared.workload.Preset.{Preset}
@@ -23,6 +23,7 @@ use Rattle.split_types.specs.Parents.{pages_of}
 use Rattle.split_types.specs.Pages.{is_live_page, is_put_since, is_dirty}
 use Rattle.split_types.specs.Workloads.{pages_from, all_pages, pages_in, page_index}
 use Rattle.split_types.specs.Writeback.{request_for}
+use Rattle.split_types.specs.Proving.Came.{read_request}
 use Rattle.split_types.specs.Proving.Runs.{ServesReady, readiness}
 use Rattle.split_types.proofs.Lists.{list_any_here, count_none}
 use Rattle.split_types.proofs.PageLaws.{page_stands}
@@ -162,3 +163,8 @@ dirty_add w h run serves =
 
     goes : (a b x y : Bool) → (x && (b && y)) ≡ true → ((b && y) ≡ true) × ((a && (not x && y)) ≡ false)
     goes a b x y e = grind arith
+
+-- a request that reads a page takes none
+pub dirty_load : (w : Workload) (h : List Event) (p : Pid) (s : Serial) (g block : ℕ)
+    → dirty_pages w (h ▹ Add (Client p) (read_request (adds h) p s g block)) ≤ dirty_pages w h
+dirty_load w h p s g block = omega arith

@@ -1,20 +1,21 @@
 -- What a completion frees: the pages that its request wrote, and no others.
-use Rattle.std.proofs.Common.{◌≡◌, ℕ, ◌≤◌, List, [], ◌∷◌, slice_get, filter, Bool, true, false, not, ◌&&◌, Some, refl, arith, sym, inl, inr, cond, count_by, nat_lt, ◌∙◌, ap}
+use Rattle.std.proofs.Common.{◌≡◌, ℕ, ◌≤◌, List, [], ◌∷◌, slice_get, filter, Bool, true, not, ◌&&◌, Some, refl, arith, sym, inl, inr, cond, count_by, nat_lt, ◌∙◌, ap}
 use Rattle.std.specs.List.{list_any}
 use Rattle.std.proofs.lemmas.Bool.{cases_Bool}
 use Rattle.std.proofs.lemmas.List.Filters.{sum_by-filter_both}
+use Rattle.split_types.specs.declared.ids.ReqId.{ReqId}
 use Rattle.split_types.specs.declared.buf.Buf.{Buf}
 use Rattle.split_types.specs.declared.buf.Buf.TheVariants.{Page, Bitmap, Dir, Inode}
+use Rattle.split_types.specs.declared.request.ReqKind.{ReqKind}
+use Rattle.split_types.specs.declared.request.ReqKind.TheVariants.{Pages}
 use Rattle.split_types.specs.declared.request.Request.{Request}
 use Rattle.split_types.specs.declared.workload.Workload.{Workload}
 use Rattle.split_types.specs.declared.event.Event.{Event}
 use Rattle.split_types.specs.declared.event.Event.TheVariants.{Done}
 use Rattle.split_types.specs.History.{◌▹◌}
-use Rattle.split_types.specs.Hooks.{covers}
+use Rattle.split_types.specs.Hooks.{is_metadata, covers}
 use Rattle.split_types.specs.Requests.{is_numbered, requests, in_flight, unfinished}
-use Rattle.split_types.specs.Proving.Runs.{WritesRun}
 use Rattle.split_types.specs.Proving.Known.{Known}
-use Rattle.split_types.proofs.KnownLaws.{flight_of}
 use Rattle.split_types.proofs.WaitingLaws.{number_here, same_number}
 use Rattle.split_types.proofs.Lists.{any_counted, count_yes, count_no, count_none, counted_here, filter_one, find_some, none_counted}
 
@@ -36,13 +37,22 @@ left_alone w h k r f at =
           (omega arith)).0 ∙ ap (λ q. q ∷ []) same)
     ]
 
+-- no request writes a buffer of metadata as a page
+only_pages : (id : ReqId) (kind : ReqKind) (first n : ℕ) (b : Buf) → is_metadata b ≡ true
+    → covers (record { id = id; kind = kind; first = first; n = n }) b ≡ true → ⊥
+only_pages id (Pages s g) first n (Page t k) metadata is = absurd (cc)
+only_pages id (Pages s g) first n Bitmap metadata is = absurd (cc)
+only_pages id (Pages s g) first n (Dir k) metadata is = absurd (cc)
+only_pages id (Pages s g) first n (Inode slot) metadata is = absurd (cc)
+only_pages id kind first n b metadata is = absurd (cc)
+
 -- no more than one unfinished request writes a buffer
-covers_once : (w : Workload) (h : List Event) (r : Request) (b : Buf) → Known w h → WritesRun w r
-    → covers r b ≡ true → count_by (λ q. covers q b) (unfinished h) ≤ 1
-covers_once w h r (Page s g) f run is = f.takes s g
-covers_once w h r Bitmap f run is = absurd (let none : covers r Bitmap ≡ false = rw run.kind refl in cc)
-covers_once w h r (Dir k) f run is = absurd (let none : covers r (Dir k) ≡ false = rw run.kind refl in cc)
-covers_once w h r (Inode slot) f run is = absurd (let none : covers r (Inode slot) ≡ false = rw run.kind refl in cc)
+covers_once : (w : Workload) (h : List Event) (r : Request) (b : Buf) → Known w h → covers r b ≡ true
+    → count_by (λ q. covers q b) (unfinished h) ≤ 1
+covers_once w h r (Page s g) f is = f.takes s g
+covers_once w h r Bitmap f is = absurd (only_pages r.id r.kind r.first r.n Bitmap refl is)
+covers_once w h r (Dir k) f is = absurd (only_pages r.id r.kind r.first r.n (Dir k) refl is)
+covers_once w h r (Inode slot) f is = absurd (only_pages r.id r.kind r.first r.n (Inode slot) refl is)
 
 -- one that writes it is counted, and one that doesn't isn't
 one_if : (p : Request → Bool) (r : Request) → count_by p (r ∷ []) ≡ cond (p r) 1 0
@@ -67,7 +77,7 @@ frees w h k r b f at =
       | inl here ↦
           (let one : ◌≡◌ {A = ℕ} (cond (covers r b) 1 0) 1 = rw here refl
           in none_counted (λ q. covers q b) rest
-          (omega (arith, both, own, covers_once w h r b f (flight_of w h k r f at).run here))
+          (omega (arith, both, own, covers_once w h r b f here))
           ∙ sym (ap (λ c. not c && list_any (λ q. covers q b) (unfinished h)) here))
       | inr past ↦
           (let none : ◌≡◌ {A = ℕ} (cond (covers r b) 1 0) 0 = rw past refl

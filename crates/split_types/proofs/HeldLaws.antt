@@ -1,10 +1,9 @@
 -- Every page that is held, dirty or busy is among the known pages, and each of these stands there once.
-use Rattle.std.proofs.Common.{◌≡◌, ℕ, zero, suc, ◌+◌, List, [], ◌∷◌, ◌++◌, slice_get, filter, Bool, true, false, not, ◌&&◌, ◌||◌, Option, Some, None, refl, arith, sym, subst, inl, inr, ◌∙◌, ap, ◌⊎◌}
+use Rattle.std.proofs.Common.{◌≡◌, ℕ, zero, suc, ◌+◌, List, [], ◌∷◌, slice_get, Bool, true, false, not, ◌&&◌, Option, Some, refl, arith, sym, subst, inl, inr, ◌∙◌, ap, ◌⊎◌}
 use Rattle.std.specs.Prelude.{◌==◌}
 use Rattle.std.specs.List.{list_any}
 use Rattle.std.proofs.lemmas.Bool.{cases_Bool, cases_lt, or_cases, or_left, or_right, and_parts, cond-true, cond-false, both_ways, eqb-true, eq-eqb}
 use Rattle.std.proofs.lemmas.Bool.Decides.{nat_tests}
-use Rattle.std.proofs.lemmas.List.Folds.{list_any-append}
 use Rattle.std.proofs.lemmas.Option.{same_Some}
 use Rattle.split_types.specs.declared.ids.ReqId.{ReqId}
 use Rattle.split_types.specs.declared.ids.Serial.{Serial}
@@ -23,7 +22,9 @@ use Rattle.split_types.specs.Requests.{is_numbered, unfinished}
 use Rattle.split_types.specs.Pages.{is_live_page, is_put_since, is_dirty, is_busy}
 use Rattle.split_types.specs.Reads.{reads, outstanding, request_numbered, is_read_of, is_loading}
 use Rattle.split_types.specs.HeldPages.{is_placed, is_held, is_unsettled, pages_moved, with_page, with_pages, known_pages, PagesAreKnown}
-use Rattle.split_types.proofs.Lists.{none_in_filter, list_any_here}
+use Rattle.split_types.proofs.Lists.{list_any_here}
+use Rattle.split_types.proofs.NumberLaws.{reads_some}
+use Rattle.split_types.proofs.KeptLists.{any_filter, any_push}
 
 -- ---- buffers that are the same
 pub same_buf-is : (b c : Buf) → same_buf b c ≡ true → b ≡ c
@@ -64,7 +65,7 @@ with_page-new b c bufs same = elim (cases_Bool (stands_in b bufs)) [
       ∙ or_left (same_buf c b) (stands_in c bufs) same
 ]
 
-with_pages-old : (others : List Buf) (c : Buf) (bufs : List Buf) → stands_in c bufs ≡ true
+pub with_pages-old : (others : List Buf) (c : Buf) (bufs : List Buf) → stands_in c bufs ≡ true
     → stands_in c (with_pages others bufs) ≡ true
 with_pages-old [] c bufs has = has
 with_pages-old (b ∷ others) c bufs has =
@@ -129,7 +130,7 @@ first_or_later s g n t k is = elim (cases_lt g k) [
   | inr first ↦ inl (grind (arith, nat_tests, is, first))
 ]
 
-among_pages : (s : Serial) (g n : ℕ) (c : Buf) → is_among s g n c ≡ true → stands_in c (pages_of s g n) ≡ true
+pub among_pages : (s : Serial) (g n : ℕ) (c : Buf) → is_among s g n c ≡ true → stands_in c (pages_of s g n) ≡ true
 among_pages s g zero (Page t k) is = absurd (grind (arith, nat_tests, is))
 among_pages s g (suc n) (Page t k) is = elim (first_or_later s g n t k is) [
   | inl first ↦ or_left (same_buf (Page t k) (Page s g)) (stands_in (Page t k) (pages_of s (g + 1) n)) first
@@ -149,24 +150,6 @@ written_moved : (r : Request) (c : Buf) → covers r c ≡ true → stands_in c 
 written_moved r c is = written_moved-of r.id r.kind r.first r.n c is
 
 -- ---- pages of requests that aren't done, or not done well
-any_filter : {X : Type 0} (p q : X → Bool) (xs : List X) → list_any p (filter q xs) ≡ true → list_any p xs ≡ true
-any_filter p q xs any = elim (cases_Bool (list_any p xs)) [
-  | inl is ↦ is
-  | inr none ↦ absurd (both_ways (list_any p (filter q xs)) (none_in_filter p q xs none) any)
-]
-
--- of a list with one more at its end
-any_push : {X : Type 0} (p : X → Bool) (xs : List X) (x : X) → list_any p (xs ++ x ∷ []) ≡ true
-    → (list_any p xs ≡ true) ⊎ (p x ≡ true)
-any_push p xs x any = elim (or_cases (list_any p xs) (p x || false) (sym (list_any-append p xs (x ∷ [])) ∙ any)) [
-  | inl old ↦ inl old
-  | inr new ↦ inr (only (p x) new)
-]
-  where
-    only : (b : Bool) → (b || false) ≡ true → b ≡ true
-    only true is = refl
-    only false is = is
-
 loading_known : (h : List Event) (b : Buf) → list_any (λ r. reads r b) (outstanding h) ≡ true
     → stands_in b (known_pages h) ≡ true
 loading_known [] b any = absurd (cc)
@@ -206,9 +189,6 @@ put_known (h ▹ Add by r) b is =
 put_known (h ▹ e) b is = put_known h b is
 
 -- ---- pages that were read
-abbrev reads_some : Option Request → Buf → Bool
-reads_some old b = elim old [ None ↦ false | Some r ↦ reads r b ]
-
 abbrev newer : Bool → Request → Option Request → Option Request
 newer t r old = elim t [ true ↦ Some r | false ↦ old ]
 

@@ -1,8 +1,9 @@
 -- Laws of lists: places in lists that are joined, cut or filtered, what a search finds, and how many pass a test.
-use Rattle.std.proofs.Common.{◌≡◌, ℕ, zero, suc, ◌+◌, ◌<◌, ◌≤◌, List, [], ◌∷◌, ◌++◌, length, map, slice_get, take, filter, find, Bool, true, false, not, ◌||◌, Some, None, refl, arith, subst, sym, inl, inr, cond, count_by, nat_lt, ◌⊎◌, ◌∙◌, ap}
+use Rattle.std.proofs.Common.{◌≡◌, ℕ, zero, suc, ◌+◌, ◌<◌, ◌≤◌, List, [], ◌∷◌, ◌++◌, length, map, slice_get, take, filter, find, Bool, true, false, not, ◌&&◌, ◌||◌, Some, None, refl, arith, subst, sym, inl, inr, cond, count_by, nat_lt, ◌⊎◌, ◌∙◌, ap}
 use Rattle.std.specs.Prelude.{All, remove}
 use Rattle.std.specs.List.{list_any}
-use Rattle.std.proofs.lemmas.Bool.{cases_Bool, or_parts, or_from, or_left, or_right, cond-true, cond-false, both_ways, not_from_true, not_from_false, cases_lt, lt-ltb, le-ltb, true_from_ne_false}
+use Rattle.std.proofs.lemmas.Bool.{cases_Bool, or_cases, or_parts, or_from, or_left, or_right, cond-true, cond-false, both_ways, not_from_true, not_from_false, cases_lt, lt-ltb, le-ltb, true_from_ne_false}
+use Rattle.std.proofs.lemmas.List.Folds.{list_any-append}
 use Rattle.std.proofs.lemmas.List.Sums.{sum_by-cons, sum_by_push}
 use Rattle.std.proofs.lemmas.Option.{same_Some, slice_get_within, get_or_from_slice_get}
 
@@ -297,3 +298,48 @@ pub map_there : {X Y : Type 0} (f : X → Y) (xs : List X) (i : ℕ) (y : Y) →
 map_there f [] i y at = absurd (cc)
 map_there f (x ∷ xs) zero y at = (x, refl, same_Some (f x) y at)
 map_there f (x ∷ xs) (suc i) y at = map_there f xs i y at
+
+-- where one passes, one of what a filter keeps does, if the filter keeps all that pass
+pub any_in_filter : {X : Type 0} (p q : X → Bool) (xs : List X) → ((x : X) → p x ≡ true → q x ≡ true)
+    → list_any p xs ≡ true → list_any p (filter q xs) ≡ true
+any_in_filter p q [] keeps any = any
+any_in_filter p q (x ∷ xs) keeps any = elim (cases_Bool (q x)) [
+  | inl kept ↦
+      ap (list_any p) (filter_yes q x xs kept)
+      ∙ elim (or_cases (p x) (list_any p xs) any) [
+        | inl here ↦ or_left (p x) (list_any p (filter q xs)) here
+        | inr later ↦ or_right (p x) (list_any p (filter q xs)) (any_in_filter p q xs keeps later)
+      ]
+  | inr out ↦
+      ap (list_any p) (filter_no q x xs out)
+      ∙ elim (or_cases (p x) (list_any p xs) any) [
+        | inl here ↦ absurd (both_ways (q x) out (keeps x here))
+        | inr later ↦ any_in_filter p q xs keeps later
+      ]
+]
+
+-- one more element that fails changes nothing
+pub any_push_no : {X : Type 0} (p : X → Bool) (xs : List X) (x : X) → p x ≡ false
+    → list_any p (xs ++ x ∷ []) ≡ list_any p xs
+any_push_no p xs x none = list_any-append p xs (x ∷ []) ∙ alone (list_any p xs) (p x) none
+  where
+    alone : (a b : Bool) → b ≡ false → (a || (b || false)) ≡ a
+    alone true b e = refl
+    alone false b e = rw e refl
+
+-- where none passes both tests, none of what the one keeps passes the other
+pub none_in_both : {X : Type 0} (p q : X → Bool) (xs : List X) → list_any (λ x. p x && q x) xs ≡ false
+    → list_any p (filter q xs) ≡ false
+none_in_both p q [] none = refl
+none_in_both p q (x ∷ xs) none =
+    let parts = or_parts (p x && q x) (list_any (λ y. p y && q y) xs) none
+    in by_test (q x) parts.0 (none_in_both p q xs parts.1)
+  where
+    by_test : (b : Bool) → (p x && b) ≡ false → list_any p (filter q xs) ≡ false
+        → list_any p (cond b (x ∷ filter q xs) (filter q xs)) ≡ false
+    by_test true fails rest = or_from (p x) (list_any p (filter q xs)) (left (p x) fails) rest
+      where
+        left : (a : Bool) → (a && true) ≡ false → a ≡ false
+        left true e = absurd (cc)
+        left false e = refl
+    by_test false fails rest = rest

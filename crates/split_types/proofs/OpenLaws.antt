@@ -16,7 +16,7 @@ use Rattle.split_types.specs.Accepted.{IsAccepted}
 use Rattle.split_types.specs.Legal.{IsLegal}
 use Rattle.split_types.specs.LegalHistories.{DirtyAreOpen}
 use Rattle.split_types.specs.Proving.Came.{Came}
-use Rattle.split_types.specs.Proving.Came.Came.{came_enter, came_admit, came_put, came_ret, came_serve, came_add, came_send, came_done}
+use Rattle.split_types.specs.Proving.Came.Came.{came_enter, came_admit, came_no_file, came_wrote, came_read, came_fault, came_put, came_get, came_zeros, came_evict, came_load, came_serve, came_add, came_send, came_done}
 use Rattle.split_types.specs.Proving.Known.{Known}
 use Rattle.split_types.proofs.CameLaws.{came}
 use Rattle.split_types.proofs.KnownLaws.{known}
@@ -40,9 +40,16 @@ put_open_next : (w : Workload) (h : List Event) (e : Event) (s : Serial) (g : �
     → is_put_since h (Page s g) ≡ is_open h s g → is_put_since (h ▹ e) (Page s g) ≡ is_open (h ▹ e) s g
 put_open_next w h e s g (came_enter p c has out) is = is
 put_open_next w h e s g (came_admit p c has in' out may) is = is
-put_open_next w h e s g (came_put p name off len fill t writing left) is =
+put_open_next w h e s g (came_put p name off len fill t piece here may) is =
     open_put (same_buf (Page s g) (Page t _)) (length h) (open_at h (Page s g)) (is_put_since h (Page s g)) is
-put_open_next w h e s g (came_ret p name off len fill t writing all) is = is
+put_open_next w h e s g (came_no_file p c admitted none) is = is
+put_open_next w h e s g (came_wrote p name off len fill t working none) is = is
+put_open_next w h e s g (came_read p name off len t working none) is = is
+put_open_next w h e s g (came_fault p c t piece working left bad) is = is
+put_open_next w h e s g (came_get p name off len t piece here held) is = is
+put_open_next w h e s g (came_zeros p name off len t piece here absent none) is = is
+put_open_next w h e s g (came_evict p c t piece here absent v k found) is = is
+put_open_next w h e s g (came_load p c t piece here absent block at) is = is
 put_open_next w h e s g (came_serve t k idle found) is = is
 put_open_next w h e s g (came_add run at) is =
     open_out (is_among run.serial run.page run.n (Page s g)) (open_at h (Page s g)) (is_put_since h (Page s g)) is
@@ -68,7 +75,14 @@ put_preset_next w h (Put by t k from to fill) s g accepted f c before put =
     ]
 put_preset_next w h e s g accepted f (came_enter p c has out) before put = before put
 put_preset_next w h e s g accepted f (came_admit p c has in' out may) before put = before put
-put_preset_next w h e s g accepted f (came_ret p name off len fill t writing all) before put = before put
+put_preset_next w h e s g accepted f (came_no_file p c admitted none) before put = before put
+put_preset_next w h e s g accepted f (came_wrote p name off len fill t working none) before put = before put
+put_preset_next w h e s g accepted f (came_read p name off len t working none) before put = before put
+put_preset_next w h e s g accepted f (came_fault p c t piece working left bad) before put = before put
+put_preset_next w h e s g accepted f (came_get p name off len t piece here held) before put = before put
+put_preset_next w h e s g accepted f (came_zeros p name off len t piece here absent none) before put = before put
+put_preset_next w h e s g accepted f (came_evict p c t piece here absent v k found) before put = before put
+put_preset_next w h e s g accepted f (came_load p c t piece here absent block at) before put = before put
 put_preset_next w h e s g accepted f (came_serve t k idle found) before put = before put
 put_preset_next w h e s g accepted f (came_add run at) before put =
     before (and_parts (not (is_among run.serial run.page run.n (Page s g))) (is_put_since h (Page s g)) put).1

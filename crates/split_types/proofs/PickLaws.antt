@@ -1,50 +1,94 @@
--- Of the requests of an accepted workload, which are all for pages, the one that was added first is picked.
-use Rattle.std.proofs.Common.{◌≡◌, ℕ, suc, List, [], ◌∷◌, slice_get, find, true, false, not, Option, Some, None, refl, ◌∙◌, ap, if◌then◌else◌}
-use Rattle.std.proofs.lemmas.Bool.{cond-true, cond-false, not_from_true}
+-- Of the requests of an accepted workload the one that was added first is picked.
+use Rattle.std.proofs.Common.{◌≡◌, ℕ, zero, suc, ◌+◌, ◌≤◌, List, [], ◌∷◌, slice_get, find, Bool, true, false, not, Option, Some, None, refl, arith, inl, inr, ◌∙◌, ap, nat_lt, if◌then◌else◌}
+use Rattle.std.proofs.lemmas.Bool.{cases_Bool, cond-true, cond-false, not_from_true, not_from_false, lt-ltb, le-ltb}
+use Rattle.std.proofs.lemmas.Option.{same_Some}
 use Rattle.split_types.specs.declared.request.Request.{Request}
 use Rattle.split_types.specs.declared.workload.Workload.{Workload}
 use Rattle.split_types.specs.declared.event.Event.{Event}
 use Rattle.split_types.specs.Requests.{is_write, queued}
-use Rattle.split_types.specs.Schedulers.{pick, earlier, eligible_write, is_eligible, has_stopped}
+use Rattle.split_types.specs.Schedulers.{pick, earlier, is_eligible, has_stopped}
 use Rattle.split_types.specs.Accepted.{IsAccepted}
-use Rattle.split_types.specs.Proving.Runs.{WritesRun}
-use Rattle.split_types.specs.Proving.Known.{Known}
+use Rattle.split_types.specs.Proving.Runs.{MovesRun}
+use Rattle.split_types.specs.Proving.Known.{Known, RiseTo}
 use Rattle.split_types.proofs.KnownLaws.{fifo_picks}
+use Rattle.split_types.proofs.Lists.{find_there}
 
-write_is : (w : Workload) (r : Request) → WritesRun w r → is_write r ≡ true
-write_is w r run = rw run.kind refl
-
-eligible_is : (w : Workload) (h : List Event) (r : Request) → WritesRun w r → has_stopped h ≡ false
+-- a request that moves a run waits for nothing
+eligible : (w : Workload) (h : List Event) (r : Request) → MovesRun w r → has_stopped h ≡ false
     → is_eligible h r ≡ true
-eligible_is w h r run going = rw (going, run.kind) refl
+eligible w h r run going = elim run.kind [
+  | inl writes ↦ rw (going, writes) refl
+  | inr reads ↦ rw (going, reads.1) refl
+]
 
--- of requests that all write, the first is the oldest write, and none is a read
-oldest_is : (w : Workload) (q : List Request) → ((k : ℕ) (r : Request) → slice_get q k ≡ Some r → WritesRun w r)
-    → find is_write q ≡ slice_get q 0
-oldest_is w [] runs = refl
-oldest_is w (r ∷ q) runs = cond-true (is_write r) (Some r) (find is_write q) (write_is w r (runs 0 r refl))
+-- a request of some has a number from theirs on
+number_from : (low : ℕ) (rs : List Request) (high k : ℕ) (r : Request) → RiseTo low rs high
+    → slice_get rs k ≡ Some r → low ≤ r.id.0
+number_from low [] high k r rise at = absurd (cc)
+number_from low (q ∷ rs) high zero r rise at = omega (arith, rise.0, ap (λ x. x.id.0) (same_Some q r at))
+number_from low (q ∷ rs) high (suc k) r rise at =
+    omega (arith, rise.0, number_from (q.id.0 + 1) rs high k r rise.1 at)
 
-no_read : (w : Workload) (q : List Request) → ((k : ℕ) (r : Request) → slice_get q k ≡ Some r → WritesRun w r)
-    → find (λ r. not (is_write r)) q ≡ None
-no_read w [] runs = refl
-no_read w (r ∷ q) runs =
-    cond-false (not (is_write r)) (Some r) (find (λ x. not (is_write x)) q)
-    (not_from_true (is_write r) (write_is w r (runs 0 r refl)))
-    ∙ no_read w q (λ k x at. runs (suc k) x at)
+-- a write goes before the reads behind it
+before_reads : (r : Request) (rs : List Request) (high : ℕ) (o : Option Request) → RiseTo (r.id.0 + 1) rs high
+    → find (λ q. not (is_write q)) rs ≡ o → earlier (Some r) o ≡ Some r
+before_reads r rs high None rise found = refl
+before_reads r rs high (Some q) rise found =
+    let there = find_there (λ x. not (is_write x)) rs q found
+    in let later = number_from (r.id.0 + 1) rs high there.0 q rise there.1
+    in cond-true (nat_lt r.id.0 q.id.0) (Some r) (Some q) (lt-ltb r.id.0 q.id.0 (omega (arith, later)))
 
-first_is : (w : Workload) (h : List Event) (o : Option Request) → ((r : Request) → o ≡ Some r → WritesRun w r)
-    → has_stopped h ≡ false
-    → earlier (elim o [ None ↦ None | Some r ↦ if is_eligible h r then Some r else None ]) None ≡ o
-first_is w h None runs going = refl
-first_is w h (Some r) runs going =
-    ap (λ b. earlier (if b then Some r else None) None) (eligible_is w h r (runs r refl) going)
+-- a read goes before the writes behind it
+before_writes : (h : List Event) (r : Request) (rs : List Request) (high : ℕ) (o : Option Request)
+    → RiseTo (r.id.0 + 1) rs high → find is_write rs ≡ o
+    → earlier (elim o [ None ↦ None | Some q ↦ if is_eligible h q then Some q else None ]) (Some r) ≡ Some r
+before_writes h r rs high None rise found = refl
+before_writes h r rs high (Some q) rise found = by_test (is_eligible h q)
+  where
+    at : (k : ℕ) × (slice_get rs k ≡ Some q)
+    at = (let there = find_there is_write rs q found in (there.0, there.1))
+
+    by_test : (b : Bool) → earlier (if b then Some q else None) (Some r) ≡ Some r
+    by_test true =
+        let later = number_from (r.id.0 + 1) rs high at.0 q rise at.1
+        in cond-false (nat_lt q.id.0 r.id.0) (Some q) (Some r) (le-ltb q.id.0 r.id.0 (omega (arith, later)))
+    by_test false = refl
+
+-- of requests with rising numbers, all of which may be sent, the first
+first_is : (w : Workload) (h : List Event) (rs : List Request) (high : ℕ) → RiseTo 0 rs high
+    → ((k : ℕ) (r : Request) → slice_get rs k ≡ Some r → MovesRun w r) → has_stopped h ≡ false
+    → earlier (elim (find is_write rs) [ None ↦ None | Some r ↦ if is_eligible h r then Some r else None ])
+    (find (λ r. not (is_write r)) rs) ≡ slice_get rs 0
+first_is w h [] high rise runs going = refl
+first_is w h (r ∷ rs) high rise runs going = elim (cases_Bool (is_write r)) [
+  | inl write ↦
+      (let own = cond-true (is_write r) (Some r) (find is_write rs) write
+      in let others =
+      cond-false (not (is_write r)) (Some r) (find (λ x. not (is_write x)) rs) (not_from_true (is_write r) write)
+      in let may = eligible w h r (runs 0 r refl) going
+      in ap (λ o. earlier (elim o [
+        | None ↦ None
+        | Some q ↦ if is_eligible h q then Some q else None
+      ]) (find (λ x. not (is_write x)) (r ∷ rs))) own
+      ∙ ap (λ b. earlier (if b then Some r else None) (find (λ x. not (is_write x)) (r ∷ rs))) may
+      ∙ ap (earlier (Some r)) others
+      ∙ before_reads r rs high (find (λ x. not (is_write x)) rs) rise.1 refl)
+  | inr read ↦
+      (let own = cond-false (is_write r) (Some r) (find is_write rs) read
+      in let others =
+      cond-true (not (is_write r)) (Some r) (find (λ x. not (is_write x)) rs) (not_from_false (is_write r) read)
+      in ap (λ o. earlier (elim o [
+        | None ↦ None
+        | Some q ↦ if is_eligible h q then Some q else None
+      ]) (find (λ x. not (is_write x)) (r ∷ rs))) own
+      ∙ ap (earlier (elim (find is_write rs) [
+        | None ↦ None
+        | Some q ↦ if is_eligible h q then Some q else None
+      ])) others
+      ∙ before_writes h r rs high (find is_write rs) rise.1 refl)
+]
 
 pub picks_first : (w : Workload) (h : List Event) → IsAccepted w → Known w h → pick w h ≡ slice_get (queued h) 0
 picks_first w h accepted f =
-    let runs : (k : ℕ) (r : Request) → slice_get (queued h) k ≡ Some r → WritesRun w r =
-    λ k r at. f.runs r.id.0 r (f.waiting.queue_of k r at)
-    in fifo_picks w h accepted
-    ∙ ap (earlier (eligible_write h)) (no_read w (queued h) runs)
-    ∙ ap (λ o. earlier (elim o [ None ↦ None | Some r ↦ if is_eligible h r then Some r else None ]) None)
-    (oldest_is w (queued h) runs)
-    ∙ first_is w h (slice_get (queued h) 0) (λ r at. runs 0 r at) f.going
+    fifo_picks w h accepted
+    ∙ first_is w h (queued h) _ f.rises (λ k r at. f.runs r.id.0 r (f.waiting.queue_of k r at)) f.going

@@ -1,59 +1,117 @@
--- What is known of a put that comes next.
-use Rattle.std.proofs.Common.{◌≡◌, ℕ, ◌+◌, ◌-◌, ◌/◌, ◌%◌, ◌==◌, ◌<◌, ◌≤◌, min, List, [], length, option_map, Some, arith, subst, sym, ◌∙◌, ap}
+-- What is known of a piece that comes next.
+use Rattle.std.proofs.Common.{◌≡◌, ℕ, ◌+◌, ◌-◌, ◌/◌, ◌%◌, ◌==◌, ◌≤◌, min, List, [], option_map, nat_lt, Bool, true, false, Option, Some, None, refl, arith, subst, sym, ◌∙◌, ap, if◌then◌else◌}
 use Rattle.std.proofs.lemmas.Bool.{cond_both, eqb-true}
+use Rattle.std.proofs.lemmas.Bool.Decides.{nat_tests}
 use Rattle.std.proofs.lemmas.Option.{same_Some}
 use Rattle.split_types.specs.declared.ids.Pid.{Pid}
 use Rattle.split_types.specs.declared.ids.Serial.{Serial}
+use Rattle.split_types.specs.declared.call.Call.{Call}
+use Rattle.split_types.specs.declared.call.Call.TheVariants.{Write, Read}
 use Rattle.split_types.specs.declared.workload.Workload.{Workload}
 use Rattle.split_types.specs.declared.event.Event.{Event}
 use Rattle.split_types.specs.declared.event.Event.TheVariants.{Put}
 use Rattle.split_types.specs.History.{◌▹◌}
 use Rattle.split_types.specs.Hooks.{maker}
-use Rattle.split_types.specs.Calls.{returned, moved}
-use Rattle.split_types.specs.Files.{bound_file}
+use Rattle.split_types.specs.Calls.{returned, moved, call_of}
+use Rattle.split_types.specs.Files.{is_live, bound_file}
+use Rattle.split_types.specs.Workloads.{file_named}
+use Rattle.split_types.specs.FileSizes.{if_live, size_at_admit}
+use Rattle.split_types.specs.Pieces.{Piece, first_byte, bytes_to_move, piece_at, next_piece, piece_left}
 use Rattle.split_types.specs.Accepted.{IsAccepted}
 use Rattle.split_types.specs.Legal.{IsLegal}
-use Rattle.split_types.specs.Proving.Came.{Came, IsWriting}
-use Rattle.split_types.specs.Proving.Came.Came.{came_enter, came_admit, came_put, came_ret, came_serve, came_add, came_send, came_done}
-use Rattle.split_types.specs.Proving.Overwrites.{OverwritesAt, PutIn}
+use Rattle.split_types.specs.Proving.Came.{Came, IsWorking, IsAtPiece}
+use Rattle.split_types.specs.Proving.Came.Came.{came_enter, came_admit, came_no_file, came_wrote, came_read, came_fault, came_put, came_get, came_zeros, came_evict, came_load, came_serve, came_add, came_send, came_done}
+use Rattle.split_types.specs.Proving.Pieces.{IsFirstLeft, WritesAt, PutIn}
 use Rattle.split_types.specs.Proving.Known.{Known}
-use Rattle.split_types.proofs.AcceptedLaws.{overwrites_at, procs_most}
+use Rattle.split_types.proofs.AcceptedLaws.{call_is, writes_at, moves_most, procs_most}
 use Rattle.split_types.proofs.CameLaws.{came}
 use Rattle.split_types.proofs.KnownLaws.{known}
 
--- the piece of an overwrite that begins after the bytes moved so far
-piece_in : (w : Workload) (p : Pid) (name : List ℕ) (off len fill moved : ℕ) (s : Serial) → 1 ≤ p.0
-    → p.0 ≤ length w.procs → length w.procs ≤ 32 → moved < len → OverwritesAt w name off len fill s.0
-    → PutIn w p s ((off + moved) / 4096) ((off + moved) % 4096) (min 4096 ((off + moved) % 4096 + (len - moved))) fill
-piece_in w p name off len fill moved s first last most left o = record {
-  by_least = first;
-  by_most = last;
-  procs_most = most;
-  file = o.file;
-  page = omega (arith, o.within);
-  some = omega arith;
-  to_most = omega arith;
-  fill_most = o.fill_most;
+-- ---- the piece that comes next
+first_left : (c : Call) (size moved : ℕ) (piece : Piece) → next_piece c size moved ≡ Some piece
+    → IsFirstLeft c size moved piece
+first_left c size moved piece at = by_test (nat_lt moved (bytes_to_move c size)) refl at
+  where
+    by_test : (b : Bool) → nat_lt moved (bytes_to_move c size) ≡ b
+        → (if b then Some (piece_at (first_byte c + moved) (bytes_to_move c size - moved)) else None) ≡ Some piece
+        → IsFirstLeft c size moved piece
+    by_test true is same = record { some = grind (arith, nat_tests); is = sym (same_Some _ _ same) }
+    by_test false is same = absurd (cc)
+
+-- the piece that is left of the call of a process
+pub piece_is : (w : Workload) (h : List Event) (p : Pid) (c : Call) (piece : Piece) → call_of w h p.0 ≡ Some c
+    → piece_left w h p.0 ≡ Some piece → IsFirstLeft c (size_at_admit w h p.0) (moved h p.0) piece
+piece_is w h p c piece call left =
+    first_left c (size_at_admit w h p.0) (moved h p.0) piece
+    (subst (λ o. (elim o [ None ↦ None | Some d ↦ next_piece d (size_at_admit w h p.0) (moved h p.0) ]) ≡ Some piece)
+    call left)
+
+-- the bytes of a piece are those that are left, up to the end of its page
+pub record PieceBytes (at left : ℕ) (piece : Piece) : Type 0 where
+  pub page : piece.page ≡ at / 4096
+  pub from : piece.from ≡ at % 4096
+  pub to : piece.to ≡ min 4096 (at % 4096 + left)
+
+pub piece_bytes : (c : Call) (size moved : ℕ) (piece : Piece) → IsFirstLeft c size moved piece
+    → PieceBytes (first_byte c + moved) (bytes_to_move c size - moved) piece
+piece_bytes c size moved piece first = record {
+  page = ap (λ x. x.page) first.is;
+  from = ap (λ x. x.from) first.is;
+  to = ap (λ x. x.to) first.is;
 }
 
--- what an admitted write overwrites, in the file that it is bound to
-pub writing_at : (w : Workload) (h : List Event) (p : Pid) (name : List ℕ) (off len fill : ℕ) (s : Serial)
-    → IsAccepted w → Known w h → IsWriting w h p name off len fill s → OverwritesAt w name off len fill s.0
-writing_at w h p name off len fill s accepted f writing =
-    let o = overwrites_at w accepted p.0 (returned h p.0) name off len fill writing.has.call
-    in subst (OverwritesAt w name off len fill)
-    (same o.0
-    (f.bound_to p.0 name off len fill writing.has.call writing.admitted
-    ∙ ap (option_map (λ n. record { 0 = n })) o.1.named)) o.1
+-- ---- puts
+-- the file that a call works on is the one that it is bound to
+pub bound_of : (w : Workload) (h : List Event) (o : Option Serial) (s : Serial) → if_live w h o ≡ Some s → o ≡ Some s
+bound_of w h None s is = absurd (cc)
+bound_of w h (Some t) s is = by_test (is_live w h t.0) is
   where
-    same : (n : ℕ) → bound_file w h p.0 ≡ Some (record { 0 = n }) → n ≡ s.0
-    same n is = ap (λ t. t.0) (same_Some (record { 0 = n }) s (sym is ∙ writing.file))
+    by_test : (b : Bool) → (if b then Some t else None) ≡ Some s → Some t ≡ Some s
+    by_test true at = at
+    by_test false at = absurd (cc)
+
+-- and it is there
+pub live_of : (w : Workload) (h : List Event) (o : Option Serial) (s : Serial) → if_live w h o ≡ Some s
+    → is_live w h s.0 ≡ true
+live_of w h None s is = absurd (cc)
+live_of w h (Some t) s is = by_test (is_live w h t.0) refl is
+  where
+    by_test : (b : Bool) → is_live w h t.0 ≡ b → (if b then Some t else None) ≡ Some s → is_live w h s.0 ≡ true
+    by_test true live same = subst (λ x. is_live w h x.0 ≡ true) (same_Some t s same) live
+    by_test false live same = absurd (cc)
+
+-- where an admitted write puts its bytes, in the file that it works on
+pub writing_at : (w : Workload) (h : List Event) (p : Pid) (name : List ℕ) (off len fill : ℕ) (s : Serial)
+    → IsAccepted w → Known w h → IsWorking w h p (Write name off len fill) s → WritesAt w name off len fill s.0
+writing_at w h p name off len fill s accepted f working =
+    let call = working.admitted.has.call
+    in let bound = bound_of w h (bound_file w h p.0) s working.file
+    in let preset = f.bound_to p.0 (Write name off len fill) call refl working.admitted.admitted
+    in writes_at w name off len fill s.0
+    (call_is w accepted p.0 (returned h p.0) (Write name off len fill) call)
+    (named (file_named w.files name) (sym preset ∙ bound))
+  where
+    named : (o : Option ℕ) → option_map (λ n. record { 0 = n }) o ≡ Some s → o ≡ Some s.0
+    named None is = absurd (cc)
+    named (Some n) is = ap (λ t. Some t.0) (same_Some (record { 0 = n }) s is)
 
 pub put_in : (w : Workload) (h : List Event) (by : Pid) (s : Serial) (g from to fill : ℕ) → IsAccepted w → Known w h
     → Came w h (Put by s g from to fill) → PutIn w by s g from to fill
-put_in w h by s g from to fill accepted f (came_put p name off len byte t writing left) =
-    piece_in w p name off len byte (moved h p.0) t writing.has.first writing.has.last (procs_most w accepted) left
-    (writing_at w h p name off len byte t accepted f writing)
+put_in w h by s g from to fill accepted f (came_put p name off len byte t piece here may) =
+    let at = writing_at w h p name off len byte t accepted f here.working
+    in let has = here.working.admitted.has
+    in let first = piece_is w h p (Write name off len byte) piece has.call here.left
+    in let bytes = piece_bytes (Write name off len byte) (size_at_admit w h p.0) (moved h p.0) piece first
+    in record {
+      by_least = has.first;
+      by_most = has.last;
+      procs_most = procs_most w accepted;
+      file = at.file;
+      page = omega (arith, at.within, bytes.page, first.some);
+      some = omega (arith, bytes.from, bytes.to, first.some);
+      to_most = omega (arith, bytes.to);
+      fill_most = at.fill_most;
+    }
 
 pub put_in_legal : (w : Workload) (h : List Event) (by : Pid) (s : Serial) (g from to fill : ℕ) → IsAccepted w
     → IsLegal w (h ▹ Put by s g from to fill) → PutIn w by s g from to fill
@@ -62,27 +120,43 @@ put_in_legal w h by s g from to fill accepted legal =
     (came w h (maker (Put by s g from to fill)) (Put by s g from to fill) legal.0)
 
 -- ---- the bytes that a process moves
-moved_next : (w : Workload) (h : List Event) (e : Event) (p : ℕ) → IsAccepted w → Known w h → Came w h e
-    → moved h p ≤ 4128768 → moved (h ▹ e) p ≤ 4128768
-moved_next w h e p accepted f (came_enter q c has out) most =
-    cond_both (q.0 == p) 0 (moved h p) (λ n. n ≤ 4128768) (λ _. omega arith) (λ _. most)
-moved_next w h e p accepted f (came_put q name off len fill s writing left) most =
-    let o = writing_at w h q name off len fill s accepted f writing
-    in cond_both (q.0 == p)
-    (moved h p + (min 4096 ((off + moved h q.0) % 4096 + (len - moved h q.0)) - (off + moved h q.0) % 4096))
-    (moved h p) (λ n. n ≤ 4128768)
-    (λ same. omega (arith, left, o.most, ap (moved h) (eqb-true q.0 p same)))
+-- a piece moves no more bytes than are left
+moved_piece : (w : Workload) (h : List Event) (q : Pid) (c : Call) (s : Serial) (piece : Piece) (p : ℕ)
+    → IsAccepted w → IsAtPiece w h q c s piece → moved h p ≤ 4128768
+    → (if q.0 == p then moved h p + (piece.to - piece.from) else moved h p) ≤ 4128768
+moved_piece w h q c s piece p accepted here most =
+    let call = here.working.admitted.has.call
+    in let first = piece_is w h q c piece call here.left
+    in let bytes = piece_bytes c (size_at_admit w h q.0) (moved h q.0) piece first
+    in let all = moves_most w c (size_at_admit w h q.0) (call_is w accepted q.0 (returned h q.0) c call)
+    in cond_both (q.0 == p) (moved h p + (piece.to - piece.from)) (moved h p) (λ n. n ≤ 4128768)
+    (λ same. omega (arith, first.some, all, bytes.from, bytes.to, ap (moved h) (eqb-true q.0 p same)))
     (λ _. most)
-moved_next w h e p accepted f (came_admit q c has in' out may) most = most
-moved_next w h e p accepted f (came_ret q name off len fill s writing all) most = most
-moved_next w h e p accepted f (came_serve s g idle found) most = most
-moved_next w h e p accepted f (came_add run at) most = most
-moved_next w h e p accepted f (came_send r free picked) most = most
-moved_next w h e p accepted f (came_done k r at) most = most
+
+moved_next : (w : Workload) (h : List Event) (e : Event) (p : ℕ) → IsAccepted w → Came w h e → moved h p ≤ 4128768
+    → moved (h ▹ e) p ≤ 4128768
+moved_next w h e p accepted (came_enter q c has out) most =
+    cond_both (q.0 == p) 0 (moved h p) (λ n. n ≤ 4128768) (λ _. omega arith) (λ _. most)
+moved_next w h e p accepted (came_put q name off len fill s piece here may) most =
+    moved_piece w h q (Write name off len fill) s piece p accepted here most
+moved_next w h e p accepted (came_get q name off len s piece here held) most =
+    moved_piece w h q (Read name off len) s piece p accepted here most
+moved_next w h e p accepted (came_zeros q name off len s piece here absent none) most =
+    moved_piece w h q (Read name off len) s piece p accepted here most
+moved_next w h e p accepted (came_admit q c has in' out may) most = most
+moved_next w h e p accepted (came_no_file q c admitted none) most = most
+moved_next w h e p accepted (came_wrote q name off len fill s working none) most = most
+moved_next w h e p accepted (came_read q name off len s working none) most = most
+moved_next w h e p accepted (came_fault q c s piece working left bad) most = most
+moved_next w h e p accepted (came_evict q c s piece here absent t g found) most = most
+moved_next w h e p accepted (came_load q c s piece here absent block at) most = most
+moved_next w h e p accepted (came_serve s g idle found) most = most
+moved_next w h e p accepted (came_add run at) most = most
+moved_next w h e p accepted (came_send r free picked) most = most
+moved_next w h e p accepted (came_done k r at) most = most
 
 -- no process moves more bytes in a call than a file has
 pub moved_most : (w : Workload) (h : List Event) (p : ℕ) → IsAccepted w → IsLegal w h → moved h p ≤ 4128768
 moved_most w [] p accepted legal = omega arith
 moved_most w (h ▹ e) p accepted legal =
-    moved_next w h e p accepted (known w h accepted legal.1) (came w h (maker e) e legal.0)
-    (moved_most w h p accepted legal.1)
+    moved_next w h e p accepted (came w h (maker e) e legal.0) (moved_most w h p accepted legal.1)

@@ -1,8 +1,8 @@
 -- When a page is ready, when it stays so, and which run a serve takes.
-use Rattle.std.proofs.Common.{◌≡◌, ℕ, zero, suc, ◌+◌, ◌-◌, ◌<◌, ◌≤◌, min, List, length, find, take_while, Bool, true, false, not, ◌&&◌, Some, arith, subst, sym, cond, ◌∙◌, ap}
+use Rattle.std.proofs.Common.{◌≡◌, ℕ, zero, suc, ◌+◌, ◌-◌, ◌<◌, ◌≤◌, min, List, [], ◌∷◌, length, find, take_while, Bool, true, false, not, ◌&&◌, ◌||◌, Some, arith, subst, sym, cond, ◌∙◌, ap}
 use Rattle.std.specs.List.{list_any, prefix_len}
 use Rattle.std.proofs.lemmas.Bool.{and_parts, and_from, or_right, not-true, not_from_false}
-use Rattle.std.proofs.lemmas.List.Folds.{length-prefix_len}
+use Rattle.std.proofs.lemmas.List.Folds.{length-prefix_len, list_any-append}
 use Rattle.std.proofs.lemmas.List.Sums.{prefix_len-le-length, prefix_len_passes}
 use Rattle.std.proofs.lemmas.Option.{get_or_from_slice_get}
 use Rattle.split_types.specs.declared.ids.ReqId.{ReqId}
@@ -10,11 +10,12 @@ use Rattle.split_types.specs.declared.ids.Pid.{Pid}
 use Rattle.split_types.specs.declared.ids.Serial.{Serial}
 use Rattle.split_types.specs.declared.buf.Buf.{Buf}
 use Rattle.split_types.specs.declared.buf.Buf.TheVariants.{Page}
+use Rattle.split_types.specs.declared.actor.Actor.TheVariants.{Client}
 use Rattle.split_types.specs.declared.request.Service.{Service}
 use Rattle.split_types.specs.declared.workload.Workload.{Workload}
 use Rattle.split_types.specs.declared.event.Event.{Event}
-use Rattle.split_types.specs.declared.event.Event.TheVariants.{Put, Done}
-use Rattle.split_types.specs.History.{◌▹◌}
+use Rattle.split_types.specs.declared.event.Event.TheVariants.{Put, Add, Done}
+use Rattle.split_types.specs.History.{◌▹◌, adds}
 use Rattle.split_types.specs.Hooks.{covers, same_buf}
 use Rattle.split_types.specs.Requests.{is_numbered, unfinished}
 use Rattle.split_types.specs.Files.{is_live}
@@ -22,6 +23,7 @@ use Rattle.split_types.specs.Pages.{is_put_since, is_dirty, is_busy, is_ready}
 use Rattle.split_types.specs.Parents.{pages_of}
 use Rattle.split_types.specs.Workloads.{all_pages, pages_in}
 use Rattle.split_types.specs.Writeback.{run_length}
+use Rattle.split_types.specs.Proving.Came.{read_request}
 use Rattle.split_types.specs.Proving.Runs.{IsPresetRun, ServesReady, IsPageAt, readiness}
 use Rattle.split_types.specs.Proving.Known.{ServeReady}
 use Rattle.split_types.proofs.Lists.{find_there, none_in_filter}
@@ -55,6 +57,19 @@ ready_from w h s g p =
     (not_from_false (is_busy w h (Page s g)) (ap (λ b. b && any) p.live ∙ p.idle))
 
 -- ---- a page stays ready
+pub ready_load : (w : Workload) (h : List Event) (s : Serial) (g : ℕ) (by : Pid) (t : Serial) (k block : ℕ)
+    → is_ready w h (Page s g) ≡ true
+    → is_ready w (h ▹ Add (Client by) (read_request (adds h) by t k block)) (Page s g) ≡ true
+ready_load w h s g by t k block ready =
+    let parts = ready_parts w h s g ready
+    in ready_from w (h ▹ Add (Client by) (read_request (adds h) by t k block)) s g (record {
+      live = parts.live;
+      put = parts.put;
+      idle =
+          list_any-append (λ r. covers r (Page s g)) (unfinished h) (read_request (adds h) by t k block ∷ [])
+          ∙ ap (λ b. b || false) parts.idle;
+    })
+
 pub ready_put : (w : Workload) (h : List Event) (s : Serial) (g : ℕ) (by : Pid) (t : Serial) (k from to fill : ℕ)
     → is_ready w h (Page s g) ≡ true → is_ready w (h ▹ Put by t k from to fill) (Page s g) ≡ true
 ready_put w h s g by t k from to fill ready =

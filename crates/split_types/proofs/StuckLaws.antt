@@ -1,45 +1,56 @@
 -- Where no actor that is asked in turn has a next event, a legal history of an accepted workload is drained.
-use Rattle.std.proofs.Common.{◌≡◌, ℕ, zero, suc, ◌+◌, ◌==◌, ◌≤◌, List, [], ◌∷◌, ◌++◌, length, map, slice_get, option_map, Bool, true, false, not, ◌&&◌, Option, Some, None, refl, arith, ap, subst, sym, ◌∙◌, nat_lt, nat_le, inl, inr, if◌then◌else◌}
+use Rattle.std.proofs.Common.{◌≡◌, ℕ, zero, suc, ◌+◌, ◌==◌, ◌≤◌, List, [], ◌∷◌, ◌++◌, length, map, slice_get, get_or, option_map, Bool, true, false, not, ◌&&◌, Option, Some, None, refl, arith, ap, subst, sym, ◌∙◌, nat_lt, nat_le, inl, inr, if◌then◌else◌}
 use Rattle.std.specs.List.{range_with_len, list_any, list_all}
-use Rattle.std.proofs.lemmas.Bool.{and_from, and_right, eq-eqb, lt-ltb, not_from_false, cases_lt, cases_Bool}
+use Rattle.std.proofs.lemmas.Bool.{and_from, and_right, eq-eqb, eqb-true, lt-ltb, not_from_false, not_from_true, cases_lt, cases_Bool, cond_both}
 use Rattle.std.proofs.lemmas.Bool.Decides.{nat_tests}
+use Rattle.std.proofs.lemmas.List.Folds.{list_any_none}
+use Rattle.std.proofs.lemmas.Option.{slice_get_within}
 use Rattle.split_types.specs.declared.ids.Pid.{Pid}
 use Rattle.split_types.specs.declared.ids.Serial.{Serial}
 use Rattle.split_types.specs.declared.buf.Buf.{Buf}
 use Rattle.split_types.specs.declared.buf.Buf.TheVariants.{Page}
 use Rattle.split_types.specs.declared.call.Call.{Call}
-use Rattle.split_types.specs.declared.call.Call.TheVariants.{Write}
+use Rattle.split_types.specs.declared.call.Call.TheVariants.{Write, Read}
+use Rattle.split_types.specs.declared.call.Reply.{Reply}
+use Rattle.split_types.specs.declared.call.Reply.TheVariants as reply
 use Rattle.split_types.specs.declared.actor.Actor.{Actor}
 use Rattle.split_types.specs.declared.actor.Actor.TheVariants.{Client, Wb, Cm, Dq, Dn, Tk}
 use Rattle.split_types.specs.declared.request.Request.{Request}
 use Rattle.split_types.specs.declared.request.Run.{Run}
 use Rattle.split_types.specs.declared.workload.Workload.{Workload}
 use Rattle.split_types.specs.declared.event.Event.{Event}
-use Rattle.split_types.specs.declared.event.Event.TheVariants.{Enter, Admit, Serve, Add, Done}
+use Rattle.split_types.specs.declared.event.Event.TheVariants.{Enter, Admit, Ret, Serve, Add, Done, Evict}
 use Rattle.split_types.specs.Rows.{◌⇒◌∣◌}
-use Rattle.split_types.specs.History.{adds}
+use Rattle.split_types.specs.History.{◌▹◌, adds}
+use Rattle.split_types.specs.Hooks.{maker}
 use Rattle.split_types.specs.Requests.{requests, queued, in_flight, unfinished}
-use Rattle.split_types.specs.Pages.{is_live_page, is_dirty, is_ready}
-use Rattle.split_types.specs.Hooks.{covers}
+use Rattle.split_types.specs.Pages.{is_dirty, is_ready}
 use Rattle.split_types.specs.Workloads.{processes, calls_of, all_pages}
-use Rattle.split_types.specs.Calls.{returned, is_entered, is_admitted, call_of}
-use Rattle.split_types.specs.Files.{bound_file}
+use Rattle.split_types.specs.Calls.{returned, is_entered, is_admitted, moved, call_of}
+use Rattle.split_types.specs.FileSizes.{working_file}
+use Rattle.split_types.specs.Reads.{is_loading, is_read_badly}
+use Rattle.split_types.specs.HeldPages.{is_held, is_full, is_unsettled, is_crowded}
+use Rattle.split_types.specs.Victims.{victim}
+use Rattle.split_types.specs.Pieces.{Piece, is_whole, piece_left, got}
 use Rattle.split_types.specs.Schedulers.{admits, pick}
 use Rattle.split_types.specs.Accepted.{IsAccepted}
-use Rattle.split_types.specs.Clients.{client_state, next_of_client, next_of_call, next_of_admitted, next_of_write}
+use Rattle.split_types.specs.Clients.{PieceState, piece_state, state_left, client_state, put_of, get_of, load_of, evict_of, next_of_absent, next_of_put, next_of_get, next_on_file, next_of_admitted, next_of_call, next_of_client}
 use Rattle.split_types.specs.Writeback.{service, served_run, request_for, next_serve, serve_from, run_length}
 use Rattle.split_types.specs.Next.{send_of, next, next_of_dispatcher, next_of_completion}
-use Rattle.split_types.specs.Legal.{is_finished, first_next}
+use Rattle.split_types.specs.Legal.{IsLegal, is_finished, first_next}
 use Rattle.split_types.specs.Draining.{NeverStuck}
-use Rattle.split_types.specs.Proving.Overwrites.{Overwrites}
+use Rattle.split_types.specs.Proving.Came.{Came}
+use Rattle.split_types.specs.Proving.Came.Came.{came_no_file, came_wrote, came_read, came_fault}
 use Rattle.split_types.specs.Proving.Known.{Known}
+use Rattle.split_types.specs.Proving.Pieces.{IsTaken}
 use Rattle.split_types.proofs.AcceptedLaws.{call_is}
-use Rattle.split_types.proofs.Lists.{some_at, find_some, any_weaker}
+use Rattle.split_types.proofs.CameLaws.{came}
+use Rattle.split_types.proofs.Lists.{some_at, find_some}
 use Rattle.split_types.proofs.PageLaws.{page_is}
 use Rattle.split_types.proofs.WaitingLaws.{nothing_left}
 use Rattle.split_types.proofs.KnownLaws.{known}
 use Rattle.split_types.proofs.PickLaws.{picks_first}
-use Rattle.split_types.proofs.BoundLaws.{work}
+use Rattle.split_types.proofs.VictimExists.{IsQuiet, HasVictim, quiet, not_crowded, victim_there}
 
 -- ---- who has no next event
 -- the first actors, and the rest
@@ -77,49 +88,171 @@ of_client w h p least most = rw (within p (length w.procs) least most) refl
 admits_all : (w : Workload) (h : List Event) (p : ℕ) → IsAccepted w → admits w h p ≡ true
 admits_all w h p accepted = rw accepted.built.sched refl
 
--- a process with a call left has a next event
-call_left : (w : Workload) (h : List Event) (p : ℕ) (c : Call) → IsAccepted w → Known w h → call_of w h p ≡ Some c
-    → Overwrites w c
-    → next_of_call (client_state w h (record { 0 = p })) c ≡ None → ⊥
-call_left w h p c accepted f at over none =
-    go (is_entered h p) (is_admitted h p) (admits w h p) refl (admits_all w h p accepted)
-    (subst (λ d. next_of_call (client_state w h (record { 0 = p })) d ≡ None) over.write none)
+-- what a client finds where the requests and writeback rest: no page loads, the stack isn't crowded, and a full cache
+-- has a victim
+record IsFree (w : Workload) (h : List Event) : Type 0 where
+  loading : (b : Buf) → is_loading w h b ≡ false
+  calm : is_crowded w h ≡ false
+  room : is_full w h ≡ true → HasVictim w h
+
+evict_left : (w : Workload) (h : List Event) (p : Pid) → HasVictim w h → evict_of p (victim w h) ≡ None → ⊥
+evict_left w h p v none =
+    let some : Some (Evict p v.serial v.page) ≡ None = sym (ap (evict_of p) v.is) ∙ none in absurd (cc)
+
+-- a piece of a write that is left has a next event
+absent_left : (s : PieceState) (fill : ℕ) → next_of_absent s fill ≡ None → ⊥
+absent_left s fill none = go (is_whole s.piece) s.block none
   where
-    by : Pid
-    by = record { 0 = p }
-
-    write : Call
-    write = Write over.name over.off over.len over.fill
-
-    file : is_admitted h p ≡ true → bound_file w h p ≡ Some (record { 0 = over.serial })
-    file ad =
-        f.bound_to p over.name over.off over.len over.fill (at ∙ ap Some over.write) ad
-        ∙ ap (option_map (λ s. record { 0 = s })) over.overwrites.named
-
-    some_file : (o : Option Serial) → o ≡ Some (record { 0 = over.serial })
+    go : (whole : Bool) (block : Option ℕ)
         → ◌≡◌ {A = Option Event}
-        (elim o [ None ↦ None | Some s ↦ Some (next_of_write (client_state w h by) s over.off over.len over.fill) ])
-        None
+        (whole ⇒ Some (put_of s fill) ∣ elim block [ None ↦ Some (put_of s fill) | Some n ↦ Some (load_of s n) ]) None
         → ⊥
-    some_file None is none = absurd (cc)
-    some_file (Some s) is none = absurd (cc)
+    go true block is = absurd (cc)
+    go false None is = absurd (cc)
+    go false (Some n) is = absurd (cc)
 
-    go : (en ad may : Bool) → is_admitted h p ≡ ad → may ≡ true
+put_left : (w : Workload) (h : List Event) (p : Pid) (serial : Serial) (piece : Piece) (fill : ℕ) → IsFree w h
+    → next_of_put (piece_state w h p serial piece) fill ≡ None → ⊥
+put_left w h p serial piece fill free none =
+    go (is_read_badly h p.0 b) (is_loading w h b) (not (is_unsettled w h b) && is_crowded w h) (is_held w h b)
+    (is_full w h) (free.loading b) (and_right (not (is_unsettled w h b)) (is_crowded w h) free.calm) free.room none
+  where
+    b : Buf
+    b = Page serial piece.page
+
+    s : PieceState
+    s = piece_state w h p serial piece
+
+    go : (bad loads waits held full : Bool) → loads ≡ false → waits ≡ false → (full ≡ true → HasVictim w h)
         → ◌≡◌ {A = Option Event}
-        (not en ⇒ Some (Enter by (returned h p)) ∣ not ad ⇒ (if may then Some (Admit by) else None)
-        ∣ next_of_admitted (client_state w h by) write) None
+        (bad ⇒ Some (Ret p reply.ReadFault) ∣ loads ⇒ None ∣ waits ⇒ None ∣ held ⇒ Some (put_of s fill)
+        ∣ full ⇒ evict_of p (victim w h) ∣ next_of_absent s fill) None
         → ⊥
-    go false ad may is lets none = absurd (cc)
-    go true false true is lets none = absurd (cc)
-    go true false false is lets none = absurd (cc)
-    go true true may is lets none = some_file (bound_file w h p) (file is) none
+    go true loads waits held full there calm room is = absurd (cc)
+    go false true waits held full there calm room is = absurd (cc)
+    go false false true held full there calm room is = absurd (cc)
+    go false false false true full there calm room is = absurd (cc)
+    go false false false false true there calm room is = evict_left w h p (room refl) is
+    go false false false false false there calm room is = absent_left s fill is
 
-finished_is : (w : Workload) (h : List Event) (p : ℕ) → IsAccepted w → Known w h
+-- a piece of a read that is left has a next event
+get_left : (w : Workload) (h : List Event) (p : Pid) (serial : Serial) (piece : Piece) → IsFree w h
+    → next_of_get (piece_state w h p serial piece) ≡ None → ⊥
+get_left w h p serial piece free none =
+    go (is_read_badly h p.0 b) (is_loading w h b) (is_held w h b) s.block (is_full w h) (free.loading b) free.room none
+  where
+    b : Buf
+    b = Page serial piece.page
+
+    s : PieceState
+    s = piece_state w h p serial piece
+
+    go : (bad loads held : Bool) (block : Option ℕ) (full : Bool) → loads ≡ false → (full ≡ true → HasVictim w h)
+        → ◌≡◌ {A = Option Event}
+        (bad ⇒ Some (Ret p reply.ReadFault) ∣ loads ⇒ None ∣ held ⇒ Some (get_of s s.sum)
+        ∣ elim block [
+          | None ↦ Some (get_of s 0)
+          | Some n ↦ full ⇒ evict_of p (victim w h) ∣ Some (load_of s n)
+        ]) None
+        → ⊥
+    go true loads held block full there room is = absurd (cc)
+    go false true held block full there room is = absurd (cc)
+    go false false true block full there room is = absurd (cc)
+    go false false false None full there room is = absurd (cc)
+    go false false false (Some n) true there room is = evict_left w h p (room refl) is
+    go false false false (Some n) false there room is = absurd (cc)
+
+-- a write or read that is admitted has a next event
+file_left : (w : Workload) (h : List Event) (p : Pid) (c : Call) (serial : Serial) → IsTaken w c → IsFree w h
+    → working_file w h p.0 ≡ Some serial → next_on_file (client_state w h p) c ≡ None → ⊥
+file_left w h p (Write name off len fill) serial taken free file none =
+    go (piece_left w h p.0)
+    (subst (λ o. (elim (state_left w h p o) [
+      | None ↦ Some (Ret p reply.Done)
+      | Some s ↦ next_of_put s fill
+    ]) ≡ None) file none)
+  where
+    go : (o : Option Piece)
+        → ◌≡◌ {A = Option Event}
+        (elim (option_map (piece_state w h p serial) o) [
+          | None ↦ Some (Ret p reply.Done)
+          | Some s ↦ next_of_put s fill
+        ]) None
+        → ⊥
+    go None is = absurd (cc)
+    go (Some piece) is = put_left w h p serial piece fill free is
+file_left w h p (Read name off len) serial taken free file none =
+    go (piece_left w h p.0)
+    (subst (λ o. (elim (state_left w h p o) [
+      | None ↦ Some (Ret p (reply.Count (moved h p.0) (got h p.0)))
+      | Some s ↦ next_of_get s
+    ]) ≡ None) file none)
+  where
+    go : (o : Option Piece)
+        → ◌≡◌ {A = Option Event}
+        (elim (option_map (piece_state w h p serial) o) [
+          | None ↦ Some (Ret p (reply.Count (moved h p.0) (got h p.0)))
+          | Some s ↦ next_of_get s
+        ]) None
+        → ⊥
+    go None is = absurd (cc)
+    go (Some piece) is = get_left w h p serial piece free is
+file_left w h p c serial taken free file none = absurd (taken.built)
+
+admitted_left : (w : Workload) (h : List Event) (p : Pid) (c : Call) → IsTaken w c → IsFree w h
+    → next_of_admitted (client_state w h p) c ≡ None → ⊥
+admitted_left w h p c taken free none = go (working_file w h p.0) refl none
+  where
+    go : (o : Option Serial) → working_file w h p.0 ≡ o
+        → ◌≡◌ {A = Option Event}
+        (elim o [ None ↦ Some (Ret p reply.NoFile) | Some serial ↦ next_on_file (client_state w h p) c ]) None
+        → ⊥
+    go None file is = absurd (cc)
+    go (Some serial) file is = file_left w h p c serial taken free file is
+
+-- a process with a call left has a next event
+call_left : (w : Workload) (h : List Event) (p : Pid) (c : Call) → IsAccepted w → IsTaken w c → IsFree w h
+    → next_of_call (client_state w h p) c ≡ None → ⊥
+call_left w h p c accepted taken free none =
+    go (is_entered h p.0) (is_admitted h p.0) (admits w h p.0) (admits_all w h p.0 accepted) none
+  where
+    go : (en ad may : Bool) → may ≡ true
+        → ◌≡◌ {A = Option Event}
+        (not en ⇒ Some (Enter p (returned h p.0)) ∣ not ad ⇒ (if may then Some (Admit p) else None)
+        ∣ next_of_admitted (client_state w h p) c) None
+        → ⊥
+    go false ad may lets is = absurd (cc)
+    go true false true lets is = absurd (cc)
+    go true false false lets is = absurd (cc)
+    go true true may lets is = admitted_left w h p c taken free is
+
+-- no more calls return than a process has
+returned_within : (w : Workload) (h : List Event) (p : ℕ) → IsLegal w h → returned h p ≤ length (calls_of w p)
+returned_within w [] p legal = omega arith
+returned_within w (h ▹ Ret q r) p legal =
+    cond_both (q.0 == p) (returned h p + 1) (returned h p) (λ n. n ≤ length (calls_of w p))
+    (λ same. (let has = returning w h q r (came w h (maker (Ret q r)) (Ret q r) legal.0)
+    in let call : call_of w h p ≡ Some has.0 =
+    subst (λ n. call_of w h n ≡ Some has.0) (eqb-true q.0 p same) has.1
+    in let below = slice_get_within (calls_of w p) (returned h p) has.0 call
+    in omega (arith, below)))
+    (λ other. returned_within w h p legal.1)
+  where
+    returning : (w : Workload) (h : List Event) (q : Pid) (r : Reply) → Came w h (Ret q r)
+        → (c : Call) × (call_of w h q.0 ≡ Some c)
+    returning w h q r (came_no_file p c admitted none) = (c, admitted.has.call)
+    returning w h q r (came_wrote p name off len fill s working none) =
+        (Write name off len fill, working.admitted.has.call)
+    returning w h q r (came_read p name off len s working none) = (Read name off len, working.admitted.has.call)
+    returning w h q r (came_fault p c s piece working left bad) = (c, working.admitted.has.call)
+returned_within w (h ▹ e) p legal = returned_within w h p legal.1
+
+finished_is : (w : Workload) (h : List Event) (p : ℕ) → IsAccepted w → IsFree w h
     → returned h p ≤ length (calls_of w p) → next_of_client (client_state w h (record { 0 = p })) ≡ None
     → is_finished w h p ≡ true
-finished_is w h p accepted f within none = elim (cases_lt (returned h p) (length (calls_of w p))) [
+finished_is w h p accepted free within none = elim (cases_lt (returned h p) (length (calls_of w p))) [
   | inl below ↦ (let c = some_at (calls_of w p) (returned h p) below
-      in absurd (call_left w h p c.0 accepted f c.1 (call_is w accepted p (returned h p) c.0 c.1)
+      in absurd (call_left w h (record { 0 = p }) c.0 accepted (call_is w accepted p (returned h p) c.0 c.1) free
       (subst (λ o. ◌≡◌ {A = Option Event} (elim o [
         | None ↦ None
         | Some d ↦ next_of_call (client_state w h (record {
@@ -129,17 +262,17 @@ finished_is w h p accepted f within none = elim (cases_lt (returned h p) (length
   | inr past ↦ eq-eqb (returned h p) (length (calls_of w p)) (omega arith)
 ]
 
-all_finished : (w : Workload) (h : List Event) (lo m : ℕ) → IsAccepted w → Known w h
+all_finished : (w : Workload) (h : List Event) (lo m : ℕ) → IsAccepted w → IsFree w h
     → ((p : ℕ) → returned h p ≤ length (calls_of w p)) → 1 ≤ lo → lo + m ≤ length w.procs + 1
     → first_next w h (map (λ p. Client (record { 0 = p })) (range_with_len lo m)) ≡ None
     → list_all (is_finished w h) (range_with_len lo m) ≡ true
-all_finished w h lo zero accepted f within least most none = refl
-all_finished w h lo (suc m) accepted f within least most none =
+all_finished w h lo zero accepted free within least most none = refl
+all_finished w h lo (suc m) accepted free within least most none =
     let here =
     none_first w h (Client (record { 0 = lo }))
     (map (λ p. Client (record { 0 = p })) (range_with_len (lo + 1) m)) none
-    in and_from _ _ (finished_is w h lo accepted f (within lo) (sym (of_client w h lo least (omega arith)) ∙ here.0))
-    (all_finished w h (lo + 1) m accepted f within (omega arith) (omega arith) here.1)
+    in and_from _ _ (finished_is w h lo accepted free (within lo) (sym (of_client w h lo least (omega arith)) ∙ here.0))
+    (all_finished w h (lo + 1) m accepted free within (omega arith) (omega arith) here.1)
 
 -- ---- writeback
 -- where it has no next event no page is ready
@@ -189,7 +322,7 @@ none_queued w h accepted f empty none =
     (sym (picks_first w h accepted f) ∙ go (not (nat_lt (length (in_flight h)) w.depth)) (pick w h) room none)
   where
     room : not (nat_lt (length (in_flight h)) w.depth) ≡ false
-    room = rw empty (ap not (lt-ltb 0 w.depth accepted.workload.machine.depth_least))
+    room = rw empty (not_from_true (nat_lt 0 w.depth) (lt-ltb 0 w.depth accepted.workload.machine.depth_least))
 
     go : (b : Bool) (o : Option Request) → b ≡ false
         → ◌≡◌ {A = Option Event} (b ⇒ None ∣ elim o [ None ↦ None | Some r ↦ Some (send_of h r) ]) None → o ≡ None
@@ -201,19 +334,20 @@ none_queued w h accepted f empty none =
     queue [] none = refl
     queue (r ∷ q) none = absurd (cc)
 
--- then no request is unfinished, and what is dirty is ready
+-- then no request is unfinished
 none_unfinished : (w : Workload) (h : List Event) → Known w h → queued h ≡ [] → in_flight h ≡ [] → unfinished h ≡ []
 none_unfinished w h f queue flight =
     nothing_left (requests h) (unfinished h) (λ id. f.waiting.left_once id ∙ rw (queue, flight) refl)
 
-dirty_ready : (w : Workload) (h : List Event) (b : Buf) → unfinished h ≡ [] → is_dirty w h b ≡ true
-    → is_ready w h b ≡ true
-dirty_ready w h b none dirty =
-    and_from _ _ dirty
-    (not_from_false _
-    (ap (λ l. is_live_page w h b && list_any (λ r. covers r b) l) none ∙ and_right (is_live_page w h b) false refl))
-
 -- ---- all actors
+-- where no page is loading, dirty or busy a client finds all that
+free_to_act : (w : Workload) (h : List Event) → IsAccepted w → IsLegal w h → IsQuiet w h → IsFree w h
+free_to_act w h accepted legal q = record {
+  loading = q.loading;
+  calm = not_crowded w h accepted q;
+  room = victim_there w h accepted legal q;
+}
+
 pub never_stuck : NeverStuck
 never_stuck w h accepted legal none =
     let f = known w h accepted legal
@@ -225,14 +359,14 @@ never_stuck w h accepted legal none =
     in let dn = none_first w h (Dn 0) (Tk ∷ []) dq.1
     in let flight = none_flying h dn.0
     in let queue = none_queued w h accepted f flight dq.0
+    in let q = quiet w h accepted legal (none_unfinished w h f queue flight) (none_ready w h wb.0)
     in four (list_all (is_finished w h) (processes w)) (length (queued h) == 0) (length (in_flight h) == 0)
     (not (list_any (is_dirty w h) (all_pages w)))
-    (all_finished w h 1 (length w.procs) accepted f (λ p. omega (arith, (work w h p accepted legal).within))
-    (omega arith) (omega arith) halves.0)
+    (all_finished w h 1 (length w.procs) accepted (free_to_act w h accepted legal q)
+    (λ p. returned_within w h p legal) (omega arith) (omega arith) halves.0)
     (rw queue refl) (rw flight refl)
     (not_from_false _
-    (any_weaker (is_dirty w h) (is_ready w h) (all_pages w)
-    (λ b dirty. dirty_ready w h b (none_unfinished w h f queue flight) dirty) (none_ready w h wb.0)))
+    (list_any_none (is_dirty w h) (all_pages w) (λ k d below. q.dirty (get_or (all_pages w) k d))))
   where
     four : (a b c d : Bool) → a ≡ true → b ≡ true → c ≡ true → d ≡ true → (a && b && c && d) ≡ true
     four a b c d p q r s = rw (p, q, r, s) refl

@@ -8,7 +8,7 @@ use Rattle.split_types.specs.declared.ids.Pid.{Pid}
 use Rattle.split_types.specs.declared.ids.Serial.{Serial}
 use Rattle.split_types.specs.declared.buf.Buf.TheVariants.{Page}
 use Rattle.split_types.specs.declared.actor.Actor.{Actor}
-use Rattle.split_types.specs.declared.actor.Actor.TheVariants.{Wb}
+use Rattle.split_types.specs.declared.actor.Actor.TheVariants.{Client, Wb}
 use Rattle.split_types.specs.declared.request.Request.{Request}
 use Rattle.split_types.specs.declared.workload.Workload.{Workload}
 use Rattle.split_types.specs.declared.event.Event.{Event}
@@ -26,9 +26,9 @@ use Rattle.split_types.specs.Writeback.{request_for}
 use Rattle.split_types.specs.Accepted.{IsAccepted}
 use Rattle.split_types.specs.Legal.{IsLegal}
 use Rattle.split_types.specs.LegalHistories.{ArePayers, DirtyHaveCauses}
-use Rattle.split_types.specs.Proving.Came.{Came}
-use Rattle.split_types.specs.Proving.Came.Came.{came_enter, came_admit, came_ret, came_serve, came_add, came_send, came_done}
-use Rattle.split_types.specs.Proving.Overwrites.{PutIn}
+use Rattle.split_types.specs.Proving.Came.{Came, read_request}
+use Rattle.split_types.specs.Proving.Came.Came.{came_enter, came_admit, came_no_file, came_wrote, came_read, came_fault, came_get, came_zeros, came_evict, came_load, came_serve, came_add, came_send, came_done}
+use Rattle.split_types.specs.Proving.Pieces.{PutIn}
 use Rattle.split_types.specs.Proving.Known.{Known}
 use Rattle.split_types.proofs.AcceptedLaws.{procs_most}
 use Rattle.split_types.proofs.CameLaws.{came}
@@ -78,7 +78,14 @@ blames_new w h (Put by t k from to fill) s g i accepted f c last dirty =
     blames_put w h by t k from to fill i (put_in w h by t k from to fill accepted f c) last
 blames_new w h e s g i accepted f (came_enter p c has out) last dirty = absurd (cc)
 blames_new w h e s g i accepted f (came_admit p c has in' out may) last dirty = absurd (cc)
-blames_new w h e s g i accepted f (came_ret p name off len fill t writing all) last dirty = absurd (cc)
+blames_new w h e s g i accepted f (came_no_file p c admitted none) last dirty = absurd (cc)
+blames_new w h e s g i accepted f (came_wrote p name off len fill t working none) last dirty = absurd (cc)
+blames_new w h e s g i accepted f (came_read p name off len t working none) last dirty = absurd (cc)
+blames_new w h e s g i accepted f (came_fault p c t piece working left bad) last dirty = absurd (cc)
+blames_new w h e s g i accepted f (came_get p name off len t piece here held) last dirty = absurd (cc)
+blames_new w h e s g i accepted f (came_zeros p name off len t piece here absent none) last dirty = absurd (cc)
+blames_new w h e s g i accepted f (came_evict p c t piece here absent v k found) last dirty = absurd (cc)
+blames_new w h e s g i accepted f (came_load p c t piece here absent block at) last dirty = absurd (cc)
 blames_new w h e s g i accepted f (came_serve t k idle found) last dirty = absurd (cc)
 blames_new w h e s g i accepted f (came_add run at) last dirty = absurd (cc)
 blames_new w h e s g i accepted f (came_send r free picked) last dirty = absurd (cc)
@@ -174,10 +181,28 @@ union_are w h s g n accepted legal some dirty =
       most = λ p is. (blamed_is w h s g n p accepted legal (blamed p is)).1;
     }
 
+-- one process of the workload pays
+one_pays : (w : Workload) (p : ℕ) → IsAccepted w → 1 ≤ p → p ≤ length w.procs → ArePayers w (p ∷ [])
+one_pays w p accepted least most = record {
+  is_set = one-is_set p least (omega (arith, most, procs_most w accepted));
+  some = omega arith;
+  least = λ q is. omega (arith, least, same q is);
+  most = λ q is. omega (arith, most, same q is);
+}
+  where
+    same : (q : ℕ) → has (p ∷ []) q ≡ true → p ≡ q
+    same q is = grind (arith, nat_tests, is)
+
 -- the tag of a request that is added
 added_tag : (w : Workload) (h : List Event) (by : Actor) (r : Request) → IsAccepted w → IsLegal w h → Known w h
     → Came w h (Add by r)
     → ArePayers w (blame (h ▹ Add by r) (length h))
+added_tag w h by r accepted legal f (came_load p c t piece here absent block at) =
+    let has = here.working.admitted.has
+    in subst (ArePayers w)
+    (sym (blame-new h (Add (Client p) (read_request (adds h) p t piece.page block))
+    ∙ union-one (p.0 ∷ []) (one-is_set p.0 has.first (omega (arith, has.last, procs_most w accepted)))))
+    (one_pays w p.0 accepted has.first has.last)
 added_tag w h by r accepted legal f (came_add run at) =
     let served = f.serves run at in
     let parts = ready_parts w h run.serial (run.page + 0) (served.all_ready 0 (omega (arith, served.run_is.some))) in

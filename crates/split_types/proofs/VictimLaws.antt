@@ -18,6 +18,7 @@ use Rattle.split_types.specs.Reads.{reads, request_numbered, is_read_of, is_load
 use Rattle.split_types.specs.HeldPages.{is_placed, is_held, is_unsettled, known_pages}
 use Rattle.split_types.specs.Victims.{last_touch, is_pinned, is_evictable, touched_earlier, least_touched, victim, IsVictim, VictimsAreOldest}
 use Rattle.split_types.proofs.Lists.{find_some, filter_there}
+use Rattle.split_types.proofs.KeptLists.{in_filter}
 use Rattle.split_types.proofs.HeldLaws.{same_buf-is, same_buf-self, held_known}
 
 -- ---- the page of least last touch
@@ -103,7 +104,7 @@ later : (t : Bool) (old n : ℕ) → (t ≡ false → old < n) → (if t then n 
 later true old n was = omega arith
 later false old n was = omega (arith, was refl)
 
-touched_before : (h : List Event) (b : Buf) → is_placed h b ≡ true → last_touch h b < length h
+pub touched_before : (h : List Event) (b : Buf) → is_placed h b ≡ true → last_touch h b < length h
 touched_before [] b is = absurd (cc)
 touched_before (h ▹ Put by s g from to fill) b is =
     later (same_buf b (Page s g)) (last_touch h b) (length h)
@@ -138,7 +139,7 @@ one_page : (r : Option Request) (b c : Buf) → (elim r [ None ↦ false | Some 
 one_page None b c one two = absurd (cc)
 one_page (Some r) b c one two = one_page_of r.id r.kind r.first r.n b c one two
 
-same_touch : (h : List Event) (b c : Buf) → is_placed h b ≡ true → is_placed h c ≡ true
+pub same_touch : (h : List Event) (b c : Buf) → is_placed h b ≡ true → is_placed h c ≡ true
     → last_touch h b ≡ last_touch h c → b ≡ c
 same_touch [] b c one two is = absurd (cc)
 same_touch (h ▹ Put by s g from to fill) b c one two is =
@@ -171,7 +172,7 @@ not_loading true l p none is = absurd (cc)
 not_loading false true p none is = absurd (cc)
 not_loading false false p none is = absurd (cc)
 
-evictable_placed : (w : Workload) (h : List Event) (b : Buf) → is_evictable w h b ≡ true → is_placed h b ≡ true
+pub evictable_placed : (w : Workload) (h : List Event) (b : Buf) → is_evictable w h b ≡ true → is_placed h b ≡ true
 evictable_placed w h b may =
     let parts = and_parts (is_held w h b) (not (is_unsettled w h b || is_loading w h b || is_pinned w h b)) may
     in elim (or_cases (is_loading w h b) (is_live_page w h b && is_placed h b) parts.0) [
@@ -189,25 +190,6 @@ before w h b c first second other least = elim (cases_lt (last_touch h b) (last_
       in let is : b ≡ c = same_touch h b c (evictable_placed w h b first) (evictable_placed w h c second) at
       in absurd (both_ways (same_buf b c) other (subst (λ x. same_buf b x ≡ true) is (same_buf-self b))))
 ]
-
-in_filter : (p : Buf → Bool) (xs : List Buf) (j : ℕ) (x : Buf) → slice_get xs j ≡ Some x → p x ≡ true
-    → (i : ℕ) × (slice_get (filter p xs) i ≡ Some x)
-in_filter p [] j x at passes = absurd (cc)
-in_filter p (y ∷ ys) zero x at passes =
-    let first : p y ≡ true = subst (λ z. p z ≡ true) (sym (same_Some y x at)) passes in
-    (0, ap (λ l. slice_get l 0) (cond-true (p y) (y ∷ filter p ys) (filter p ys) first) ∙ at)
-in_filter p (y ∷ ys) (suc j) x at passes =
-    let rest = in_filter p ys j x at passes in
-    elim (cases_Bool (p y)) [
-      | inl kept ↦ (
-        suc rest.0,
-        ap (λ l. slice_get l (suc rest.0)) (cond-true (p y) (y ∷ filter p ys) (filter p ys) kept) ∙ rest.1,
-      )
-      | inr out ↦ (
-        rest.0,
-        ap (λ l. slice_get l rest.0) (cond-false (p y) (y ∷ filter p ys) (filter p ys) out) ∙ rest.1,
-      )
-    ]
 
 evictable_at : (w : Workload) (h : List Event) (c : Buf) → is_evictable w h c ≡ true
     → (i : ℕ) × (slice_get (filter (is_evictable w h) (known_pages h)) i ≡ Some c)

@@ -1,21 +1,25 @@
 -- What each process has done in a legal history, and what its calls allow it to do.
-use Rattle.std.proofs.Common.{◌≡◌, ℕ, ◌+◌, ◌-◌, ◌*◌, ◌%◌, ◌==◌, ◌<◌, ◌≤◌, min, List, [], length, take, slice_get, Bool, true, false, not, Option, ◌&&◌, ◌||◌, Some, refl, arith, ap, subst, subst₂, sym, cond, sum_by, if◌then◌else◌}
+use Rattle.std.proofs.Common.{◌≡◌, ℕ, ◌+◌, ◌-◌, ◌*◌, ◌/◌, ◌==◌, ◌<◌, ◌≤◌, List, [], length, take, slice_get, Bool, true, false, not, ◌&&◌, ◌||◌, Some, refl, arith, ap, subst, subst₂, cond, sum_by, if◌then◌else◌}
 use Rattle.std.proofs.lemmas.Bool.{eqb-true}
 use Rattle.std.proofs.lemmas.List.Sums.{sum_by_more}
 use Rattle.std.proofs.lemmas.Option.{slice_get_within, get_or_from_slice_get}
+use Rattle.split_types.specs.declared.ids.Pid.{Pid}
+use Rattle.split_types.specs.declared.ids.Serial.{Serial}
 use Rattle.split_types.specs.declared.call.Call.{Call}
-use Rattle.split_types.specs.declared.call.Call.TheVariants.{Write}
+use Rattle.split_types.specs.declared.call.Call.TheVariants.{Creat, Write, Read, Fsync, Unlink}
 use Rattle.split_types.specs.declared.workload.Workload.{Workload}
 use Rattle.split_types.specs.declared.event.Event.{Event}
-use Rattle.split_types.specs.declared.event.Event.TheVariants.{Enter, Admit, Put, Ret}
+use Rattle.split_types.specs.declared.event.Event.TheVariants.{Enter, Admit, Put, Get, Ret}
 use Rattle.split_types.specs.History.{◌▹◌}
-use Rattle.split_types.specs.Workloads.{calls_of, span, pages_spanned}
-use Rattle.split_types.specs.Calls.{returned, is_entered, is_admitted, moved}
-use Rattle.split_types.specs.Accepted.{IsAccepted}
-use Rattle.split_types.specs.Proving.Overwrites.{OverwritesAt}
-use Rattle.split_types.specs.Proving.Came.{Came}
-use Rattle.split_types.proofs.AcceptedLaws.{overwrites_at}
-use Rattle.split_types.specs.Proving.Came.Came.{came_enter, came_admit, came_put, came_ret, came_serve, came_add, came_send, came_done}
+use Rattle.split_types.specs.Workloads.{calls_of, span}
+use Rattle.split_types.specs.Calls.{returned, is_entered, is_admitted, moved, call_of}
+use Rattle.split_types.specs.Files.{file_for}
+use Rattle.split_types.specs.FileSizes.{size_of_some, size_at_admit}
+use Rattle.split_types.specs.Pieces.{Piece, first_byte, bytes_to_move, piece_left}
+use Rattle.split_types.specs.Proving.Pieces.{IsFirstLeft}
+use Rattle.split_types.specs.Proving.Came.{Came, IsAdmitted, IsAtPiece}
+use Rattle.split_types.proofs.PutLaws.{piece_is, piece_bytes}
+use Rattle.split_types.specs.Proving.Came.Came.{came_enter, came_admit, came_no_file, came_wrote, came_read, came_fault, came_put, came_get, came_zeros, came_evict, came_load, came_serve, came_add, came_send, came_done}
 
 -- how many events process p made
 abbrev pub acts : List Event → ℕ → ℕ
@@ -23,60 +27,85 @@ acts [] p = 0
 acts (h ▹ Enter by k) p = if by.0 == p then acts h p + 1 else acts h p
 acts (h ▹ Admit by) p = if by.0 == p then acts h p + 1 else acts h p
 acts (h ▹ Put by serial page from to fill) p = if by.0 == p then acts h p + 1 else acts h p
+acts (h ▹ Get by serial page from to sum) p = if by.0 == p then acts h p + 1 else acts h p
 acts (h ▹ Ret by r) p = if by.0 == p then acts h p + 1 else acts h p
 acts (h ▹ e) p = acts h p
 
--- how many pieces process p has put
-abbrev pub puts : List Event → ℕ → ℕ
-puts [] p = 0
-puts (h ▹ Put by serial page from to fill) p = if by.0 == p then puts h p + 1 else puts h p
-puts (h ▹ e) p = puts h p
+-- how many pieces process p has put or got
+abbrev pub pieces : List Event → ℕ → ℕ
+pieces [] p = 0
+pieces (h ▹ Put by serial page from to fill) p = if by.0 == p then pieces h p + 1 else pieces h p
+pieces (h ▹ Get by serial page from to sum) p = if by.0 == p then pieces h p + 1 else pieces h p
+pieces (h ▹ e) p = pieces h p
 
--- how many pieces process p has put in its call under way
-abbrev pub put_now : List Event → ℕ → ℕ
-put_now [] p = 0
-put_now (h ▹ Enter by k) p = if by.0 == p then 0 else put_now h p
-put_now (h ▹ Put by serial page from to fill) p = if by.0 == p then put_now h p + 1 else put_now h p
-put_now (h ▹ Ret by r) p = if by.0 == p then 0 else put_now h p
-put_now (h ▹ e) p = put_now h p
+-- how many pieces process p has put or got in its call under way
+abbrev pub pieces_now : List Event → ℕ → ℕ
+pieces_now [] p = 0
+pieces_now (h ▹ Enter by k) p = if by.0 == p then 0 else pieces_now h p
+pieces_now (h ▹ Put by serial page from to fill) p = if by.0 == p then pieces_now h p + 1 else pieces_now h p
+pieces_now (h ▹ Get by serial page from to sum) p = if by.0 == p then pieces_now h p + 1 else pieces_now h p
+pieces_now (h ▹ Ret by r) p = if by.0 == p then 0 else pieces_now h p
+pieces_now (h ▹ e) p = pieces_now h p
 
 -- how many events of a call that is entered, and perhaps admitted, are no pieces
 abbrev pub stage : Bool → Bool → ℕ
 stage entered admitted = cond entered (cond admitted 2 1) 0
 
+-- a call that moved so many bytes in n pieces is in the n-th page behind its first one, until it moved all
+pub record IsAlong (c : Call) (size bytes n : ℕ) : Type 0 where
+  pub room : n ≤ span c
+  pub at : bytes < bytes_to_move c size → (first_byte c + bytes) / 4096 ≡ first_byte c / 4096 + n
+
 -- what a process with these calls has done: so many events, calls that returned, pieces, pieces and bytes of the call
--- under way, and whether that is entered and admitted
-pub record WorkAt (calls : List Call) (made back all_put put bytes : ℕ) (entered admitted : Bool) : Type 0 where
-  pub few : made ≤ 3 * back + stage entered admitted + all_put
-  pub waits : entered ≡ false → admitted ≡ false
-  pub within : back + cond entered 1 0 ≤ length calls
-  pub pieces : all_put ≤ sum_by span (take back calls) + put
-  pub whole : entered ≡ true → bytes ≡ 4096 * put
-  pub idle : entered ≡ false → put ≡ 0
-  pub room : entered ≡ true → (c : Call) → slice_get calls back ≡ Some c → put ≤ span c
+-- under way, the size of its file when it was admitted, and whether that is entered and admitted
+pub record WorkAt (calls : List Call) (made back all_pieces now bytes size : ℕ) (entered admitted : Bool) : Type 0
+  where
+    pub few : made ≤ 3 * back + stage entered admitted + all_pieces
+    pub waits : entered ≡ false → admitted ≡ false
+    pub within : back + cond entered 1 0 ≤ length calls
+    pub pieces : all_pieces ≤ sum_by span (take back calls) + now
+    pub idle : entered ≡ false → now ≡ 0
+    pub fresh : entered ≡ true → admitted ≡ false → (now ≡ 0) × (bytes ≡ 0)
+    pub along : entered ≡ true → (c : Call) → slice_get calls back ≡ Some c → IsAlong c size bytes now
 
 -- what process p has done
 abbrev pub Work : Workload → List Event → ℕ → Type 0
 Work w h p =
-    WorkAt (calls_of w p) (acts h p) (returned h p) (puts h p) (put_now h p) (moved h p) (is_entered h p)
-    (is_admitted h p)
+    WorkAt (calls_of w p) (acts h p) (returned h p) (pieces h p) (pieces_now h p) (moved h p) (size_at_admit w h p)
+    (is_entered h p) (is_admitted h p)
 
--- an accepted write spans as many pages as its length holds
-pub span_is : (w : Workload) (name : List ℕ) (off len fill s : ℕ) → OverwritesAt w name off len fill s
-    → len ≡ 4096 * pages_spanned off len
-span_is w name off len fill s at = omega (arith, at.starts_page, at.whole_pages, at.least)
+start_along : (c : Call) (size bytes n : ℕ) → n ≡ 0 → bytes ≡ 0 → IsAlong c size bytes n
+start_along c size bytes n none no_bytes = record {
+  room = omega (arith, none);
+  at = λ more. omega (arith, none, no_bytes);
+}
 
--- a piece of an accepted write is a whole page
-pub piece_is_page : (off moved len k n : ℕ) → off % 4096 ≡ 0 → len ≡ 4096 * n → moved ≡ 4096 * k → moved < len
-    → min 4096 ((off + moved) % 4096 + (len - moved)) - (off + moved) % 4096 ≡ 4096
-piece_is_page off moved len k n starts whole bytes more = omega arith
+along_next : (c : Call) (size bytes n : ℕ) (piece : Piece) → IsFirstLeft c size bytes piece → IsAlong c size bytes n
+    → IsAlong c size (bytes + (piece.to - piece.from)) (n + 1)
+along_next (Write name off len fill) size bytes n piece first along =
+    let is = piece_bytes (Write name off len fill) size bytes piece first
+    in let at = along.at first.some
+    in record {
+      room = omega (arith, first.some, at);
+      at = λ more. omega (arith, first.some, at, is.from, is.to, more);
+    }
+along_next (Read name off len) size bytes n piece first along =
+    let is = piece_bytes (Read name off len) size bytes piece first
+    in let at = along.at first.some
+    in record {
+      room = omega (arith, first.some, at);
+      at = λ more. omega (arith, first.some, at, is.from, is.to, more);
+    }
+along_next (Creat name) size bytes n piece first along = absurd (omega (arith, first.some))
+along_next (Fsync name) size bytes n piece first along = absurd (omega (arith, first.some))
+along_next (Unlink name) size bytes n piece first along = absurd (omega (arith, first.some))
 
-by_enter : (calls : List Call) (a r u n m : ℕ) (en ad b : Bool) → (b ≡ true → en ≡ false)
+by_enter : (calls : List Call) (a r u n m s : ℕ) (en ad b : Bool) → (b ≡ true → en ≡ false)
     → (b ≡ true → r < length calls)
-    → WorkAt calls a r u n m en ad
-    → WorkAt calls (if b then a + 1 else a) r u (if b then 0 else n) (if b then 0 else m) (b || en) ad
-by_enter calls a r u n m en ad false out more k = k
-by_enter calls a r u n m en ad true out more k =
+    → WorkAt calls a r u n m s en ad
+    → WorkAt calls (if b then a + 1 else a) r u (if b then 0 else n) (if b then 0 else m) s (b || en) ad
+by_enter calls a r u n m s en ad false out more k = k
+by_enter calls a r u n m s en ad true out more k =
     let none = k.waits (out refl)
     in let empty = k.idle (out refl)
     in let few = k.few
@@ -86,53 +115,56 @@ by_enter calls a r u n m en ad true out more k =
       waits = λ e. none;
       within = omega (arith, more refl);
       pieces = omega (arith, pieces, empty);
-      whole = λ e. omega arith;
       idle = λ e. refl;
-      room = λ e c at. omega arith;
+      fresh = λ e f. (refl, refl);
+      along = λ e c at. start_along c s 0 0 refl refl;
     }
   where
     first : a ≤ 3 * r + stage false false + u → a + 1 ≤ 3 * r + stage true false + u
     first l = omega arith
 
-by_admit : (calls : List Call) (a r u n m : ℕ) (en ad b : Bool) → (b ≡ true → en ≡ true) → (b ≡ true → ad ≡ false)
-    → WorkAt calls a r u n m en ad → WorkAt calls (if b then a + 1 else a) r u n m en (b || ad)
-by_admit calls a r u n m en ad false is out k = k
-by_admit calls a r u n m en ad true is out k = record {
-  few = rw (is refl) (more (subst₂ (λ x y. a ≤ 3 * r + stage x y + u) (is refl) (out refl) k.few));
-  waits = λ e. absurd (let t = is refl in cc);
-  within = k.within;
-  pieces = k.pieces;
-  whole = k.whole;
-  idle = k.idle;
-  room = k.room;
-}
+by_admit : (calls : List Call) (a r u n m s t : ℕ) (en ad b : Bool) → (b ≡ true → en ≡ true) → (b ≡ true → ad ≡ false)
+    → WorkAt calls a r u n m s en ad
+    → WorkAt calls (if b then a + 1 else a) r u n m (elim b [ true ↦ t | false ↦ s ]) en (b || ad)
+by_admit calls a r u n m s t en ad false is out k = k
+by_admit calls a r u n m s t en ad true is out k =
+    let none = k.fresh (is refl) (out refl)
+    in record {
+      few = rw (is refl) (more (subst₂ (λ x y. a ≤ 3 * r + stage x y + u) (is refl) (out refl) k.few));
+      waits = λ e. absurd (let t = is refl in cc);
+      within = k.within;
+      pieces = k.pieces;
+      idle = k.idle;
+      fresh = λ e f. absurd (cc);
+      along = λ e c at. start_along c t m n none.0 none.1;
+    }
   where
     more : a ≤ 3 * r + stage true false + u → a + 1 ≤ 3 * r + stage true true + u
     more l = omega arith
 
-by_put : (calls : List Call) (a r u n m d : ℕ) (en ad b : Bool) → (b ≡ true → en ≡ true) → (b ≡ true → d ≡ 4096)
-    → (b ≡ true → (c : Call) → slice_get calls r ≡ Some c → n + 1 ≤ span c)
-    → WorkAt calls a r u n m en ad
+by_piece : (calls : List Call) (a r u n m d s : ℕ) (en ad b : Bool) → (b ≡ true → en ≡ true) → (b ≡ true → ad ≡ true)
+    → (b ≡ true → (c : Call) → slice_get calls r ≡ Some c → IsAlong c s m n → IsAlong c s (m + d) (n + 1))
+    → WorkAt calls a r u n m s en ad
     → WorkAt calls (if b then a + 1 else a) r (if b then u + 1 else u) (if b then n + 1 else n)
-    (if b then m + d else m) en ad
-by_put calls a r u n m d en ad false is page room k = k
-by_put calls a r u n m d en ad true is page room k = record {
+    (if b then m + d else m) s en ad
+by_piece calls a r u n m d s en ad false is in' next k = k
+by_piece calls a r u n m d s en ad true is in' next k = record {
   few = omega (arith, k.few);
   waits = k.waits;
   within = k.within;
   pieces = omega (arith, k.pieces);
-  whole = λ e. omega (arith, k.whole e, page refl);
   idle = λ e. absurd (let t = is refl in cc);
-  room = λ e c at. room refl c at;
+  fresh = λ e f. absurd (let t = in' refl in cc);
+  along = λ e c at. next refl c at (k.along e c at);
 }
 
-by_ret : (calls : List Call) (a r u n m : ℕ) (en ad b : Bool) → (b ≡ true → en ≡ true)
+by_ret : (calls : List Call) (a r u n m s : ℕ) (en ad b : Bool) → (b ≡ true → en ≡ true)
     → (b ≡ true → (c : Call) × (slice_get calls r ≡ Some c))
-    → WorkAt calls a r u n m en ad
-    → WorkAt calls (if b then a + 1 else a) (if b then r + 1 else r) u (if b then 0 else n) m (not b && en)
+    → WorkAt calls a r u n m s en ad
+    → WorkAt calls (if b then a + 1 else a) (if b then r + 1 else r) u (if b then 0 else n) m s (not b && en)
     (not b && ad)
-by_ret calls a r u n m en ad false is has k = k
-by_ret calls a r u n m en ad true is has k =
+by_ret calls a r u n m s en ad false is has k = k
+by_ret calls a r u n m s en ad true is has k =
     let c = (has refl).0
     in let at = (has refl).1
     in let below = slice_get_within calls r c at
@@ -144,13 +176,13 @@ by_ret calls a r u n m en ad true is has k =
           omega (
             arith,
             k.pieces,
-            k.room (is refl) c at,
+            (k.along (is refl) c at).room,
             sum_by_more span calls r c below,
             ap span (get_or_from_slice_get calls r c c at),
           );
-      whole = λ e. absurd (cc);
       idle = λ e. refl;
-      room = λ e. absurd (cc);
+      fresh = λ e. absurd (cc);
+      along = λ e. absurd (cc);
     }
   where
     most : (s : ℕ) → s ≤ 2 → a ≤ 3 * r + s + u → a + 1 ≤ 3 * (r + 1) + 0 + u
@@ -161,71 +193,63 @@ by_ret calls a r u n m en ad true is has k =
     two true false = omega arith
     two true true = omega arith
 
-same_call : (o : Option Call) (a b : Call) → o ≡ Some a → o ≡ Some b → a ≡ b
-same_call o a b x y = cc
+-- a piece of the call of process q
+piece_kept : (w : Workload) (h : List Event) (q : Pid) (c : Call) (s : Serial) (piece : Piece) (p : ℕ)
+    → IsAtPiece w h q c s piece → Work w h p
+    → WorkAt (calls_of w p) (if q.0 == p then acts h p + 1 else acts h p) (returned h p)
+    (if q.0 == p then pieces h p + 1 else pieces h p) (if q.0 == p then pieces_now h p + 1 else pieces_now h p)
+    (if q.0 == p then moved h p + (piece.to - piece.from) else moved h p) (size_at_admit w h p) (is_entered h p)
+    (is_admitted h p)
+piece_kept w h q c s piece p here k =
+    let admitted = here.working.admitted
+    in by_piece (calls_of w p) (acts h p) (returned h p) (pieces h p) (pieces_now h p) (moved h p)
+    (piece.to - piece.from) (size_at_admit w h p) (is_entered h p) (is_admitted h p) (q.0 == p)
+    (λ t. subst (λ x. is_entered h x ≡ true) (eqb-true q.0 p t) admitted.entered)
+    (λ t. subst (λ x. is_admitted h x ≡ true) (eqb-true q.0 p t) admitted.admitted)
+    (λ t d at along. along_next d (size_at_admit w h p) (moved h p) (pieces_now h p) piece
+    (piece_is w h (record { 0 = p }) d piece at
+    (subst (λ x. piece_left w h x ≡ Some piece) (eqb-true q.0 p t) here.left)) along) k
 
--- what is known where process p puts a piece
-piece_facts : (w : Workload) (h : List Event) (p : ℕ) (name : List ℕ) (off len fill : ℕ) → IsAccepted w → Work w h p
-    → slice_get (calls_of w p) (returned h p) ≡ Some (Write name off len fill) → is_entered h p ≡ true → moved h p < len
-    → (min 4096 ((off + moved h p) % 4096 + (len - moved h p)) - (off + moved h p) % 4096 ≡ 4096)
-    × ((c : Call) → slice_get (calls_of w p) (returned h p) ≡ Some c → put_now h p + 1 ≤ span c)
-piece_facts w h p name off len fill parts k call is more =
-    let at = overwrites_at w parts p (returned h p) name off len fill call
-    in let is_span = span_is w name off len fill at.0 at.1
-    in let whole = k.whole is
-    in (
-      piece_is_page off (moved h p) len (put_now h p) (pages_spanned off len) at.1.starts_page is_span whole more,
-      λ c same. subst (λ x. put_now h p + 1 ≤ span x)
-          (same_call (slice_get (calls_of w p) (returned h p)) (Write name off len fill) c call same)
-          (less (put_now h p) (pages_spanned off len) (moved h p) len whole more is_span),
-    )
-  where
-    less : (n m bytes len : ℕ) → bytes ≡ 4096 * n → bytes < len → len ≡ 4096 * m → n + 1 ≤ m
-    less n m bytes len a b c = omega arith
+ret_kept : (w : Workload) (h : List Event) (q : Pid) (c : Call) (p : ℕ) → IsAdmitted w h q c → Work w h p
+    → WorkAt (calls_of w p) (if q.0 == p then acts h p + 1 else acts h p)
+    (if q.0 == p then returned h p + 1 else returned h p) (pieces h p) (if q.0 == p then 0 else pieces_now h p)
+    (moved h p) (size_at_admit w h p) (not (q.0 == p) && is_entered h p) (not (q.0 == p) && is_admitted h p)
+ret_kept w h q c p admitted k =
+    by_ret (calls_of w p) (acts h p) (returned h p) (pieces h p) (pieces_now h p) (moved h p) (size_at_admit w h p)
+    (is_entered h p) (is_admitted h p) (q.0 == p)
+    (λ t. subst (λ x. is_entered h x ≡ true) (eqb-true q.0 p t) admitted.entered)
+    (λ t. (
+      c,
+      subst (λ x. slice_get (calls_of w x) (returned h x) ≡ Some c) (eqb-true q.0 p t) admitted.has.call,
+    )) k
 
 -- an event that comes next keeps what is known of the work of each process
-pub work_kept : (w : Workload) (h : List Event) (e : Event) (p : ℕ) → IsAccepted w → Came w h e → Work w h p
-    → Work w (h ▹ e) p
-work_kept w h e p parts (came_enter q c has out) k =
-    by_enter (calls_of w p) (acts h p) (returned h p) (puts h p) (put_now h p) (moved h p) (is_entered h p)
-    (is_admitted h p) (q.0 == p)
+pub work_kept : (w : Workload) (h : List Event) (e : Event) (p : ℕ) → Came w h e → Work w h p → Work w (h ▹ e) p
+work_kept w h e p (came_enter q c has out) k =
+    by_enter (calls_of w p) (acts h p) (returned h p) (pieces h p) (pieces_now h p) (moved h p) (size_at_admit w h p)
+    (is_entered h p) (is_admitted h p) (q.0 == p)
     (λ t. subst (λ x. is_entered h x ≡ false) (eqb-true q.0 p t) out)
     (λ t. slice_get_within (calls_of w p) (returned h p) c
     (subst (λ x. slice_get (calls_of w x) (returned h x) ≡ Some c) (eqb-true q.0 p t) has.call)) k
-work_kept w h e p parts (came_admit q c has is out may) k =
-    by_admit (calls_of w p) (acts h p) (returned h p) (puts h p) (put_now h p) (moved h p) (is_entered h p)
-    (is_admitted h p) (q.0 == p)
+work_kept w h e p (came_admit q c has is out may) k =
+    by_admit (calls_of w p) (acts h p) (returned h p) (pieces h p) (pieces_now h p) (moved h p) (size_at_admit w h p)
+    (size_of_some w h (file_for w h (call_of w h p))) (is_entered h p) (is_admitted h p) (q.0 == p)
     (λ t. subst (λ x. is_entered h x ≡ true) (eqb-true q.0 p t) is)
     (λ t. subst (λ x. is_admitted h x ≡ false) (eqb-true q.0 p t) out) k
-work_kept w h e p parts (came_put q name off len fill serial writing more) k =
-    by_put (calls_of w p) (acts h p) (returned h p) (puts h p) (put_now h p) (moved h p)
-    (min 4096 ((off + moved h q.0) % 4096 + (len - moved h q.0)) - (off + moved h q.0) % 4096)
-    (is_entered h p) (is_admitted h p) (q.0 == p)
-    (λ t. subst (λ x. is_entered h x ≡ true) (eqb-true q.0 p t) writing.entered)
-    (λ t. (facts (eqb-true q.0 p t)).0)
-    (λ t. (facts (eqb-true q.0 p t)).1) k
-  where
-    facts : q.0 ≡ p
-        → (min 4096 ((off + moved h q.0) % 4096 + (len - moved h q.0)) - (off + moved h q.0) % 4096 ≡ 4096)
-        × ((c : Call) → slice_get (calls_of w p) (returned h p) ≡ Some c → put_now h p + 1 ≤ span c)
-    facts same =
-        subst
-        (λ x. (min 4096 ((off + moved h x) % 4096 + (len - moved h x)) - (off + moved h x) % 4096 ≡ 4096)
-        × ((c : Call) → slice_get (calls_of w p) (returned h p) ≡ Some c → put_now h p + 1 ≤ span c))
-        (sym same)
-        (piece_facts w h p name off len fill parts k (subst (λ x. slice_get (calls_of w x) (returned h x)
-        ≡ Some (Write name off len fill)) same writing.has.call)
-        (subst (λ x. is_entered h x ≡ true) same writing.entered) (subst (λ x. moved h x < len) same more))
-work_kept w h e p parts (came_ret q name off len fill serial writing done) k =
-    by_ret (calls_of w p) (acts h p) (returned h p) (puts h p) (put_now h p) (moved h p) (is_entered h p)
-    (is_admitted h p) (q.0 == p)
-    (λ t. subst (λ x. is_entered h x ≡ true) (eqb-true q.0 p t) writing.entered)
-    (λ t. (
-      Write name off len fill,
-      subst (λ x. slice_get (calls_of w x) (returned h x) ≡ Some (Write name off len fill))
-          (eqb-true q.0 p t) writing.has.call,
-    )) k
-work_kept w h e p parts (came_serve s g none found) k = k
-work_kept w h e p parts (came_add run is) k = k
-work_kept w h e p parts (came_send r few oldest) k = k
-work_kept w h e p parts (came_done j r at) k = k
+work_kept w h e p (came_put q name off len fill s piece here may) k =
+    piece_kept w h q (Write name off len fill) s piece p here k
+work_kept w h e p (came_get q name off len s piece here held) k = piece_kept w h q (Read name off len) s piece p here k
+work_kept w h e p (came_zeros q name off len s piece here absent none) k =
+    piece_kept w h q (Read name off len) s piece p here k
+work_kept w h e p (came_no_file q c admitted none) k = ret_kept w h q c p admitted k
+work_kept w h e p (came_wrote q name off len fill s working none) k =
+    ret_kept w h q (Write name off len fill) p working.admitted k
+work_kept w h e p (came_read q name off len s working none) k =
+    ret_kept w h q (Read name off len) p working.admitted k
+work_kept w h e p (came_fault q c s piece working left bad) k = ret_kept w h q c p working.admitted k
+work_kept w h e p (came_evict q c s piece here absent t g found) k = k
+work_kept w h e p (came_load q c s piece here absent block at) k = k
+work_kept w h e p (came_serve s g none found) k = k
+work_kept w h e p (came_add run is) k = k
+work_kept w h e p (came_send r few oldest) k = k
+work_kept w h e p (came_done j r at) k = k

@@ -1,17 +1,70 @@
 -- What a client does next.
-use Rattle.std.specs.Prelude.{ℕ, ◌+◌, ◌-◌, ◌/◌, ◌%◌, min, List, nat_lt, Bool, not, Option, Some, None, if◌then◌else◌}
+use Rattle.std.specs.Prelude.{ℕ, List, Bool, not, ◌&&◌, option_map, Option, Some, None, if◌then◌else◌}
 use Rattle.split_types.specs.declared.ids.Pid.{Pid}
 use Rattle.split_types.specs.declared.ids.Serial.{Serial}
+use Rattle.split_types.specs.declared.actor.Actor.TheVariants.{Client}
+use Rattle.split_types.specs.declared.buf.Buf.{Buf}
+use Rattle.split_types.specs.declared.buf.Buf.TheVariants.{Page}
 use Rattle.split_types.specs.declared.call.Call.{Call}
-use Rattle.split_types.specs.declared.call.Call.TheVariants.{Write}
+use Rattle.split_types.specs.declared.call.Call.TheVariants as call
 use Rattle.split_types.specs.declared.call.Reply.TheVariants as reply
+use Rattle.split_types.specs.declared.request.ReqKind.TheVariants as kind
 use Rattle.split_types.specs.declared.workload.Workload.{Workload}
 use Rattle.split_types.specs.declared.event.Event.{Event}
-use Rattle.split_types.specs.declared.event.Event.TheVariants.{Enter, Admit, Put, Ret}
+use Rattle.split_types.specs.declared.event.Event.TheVariants.{Enter, Admit, Put, Get, Ret, Add, Evict}
+use Rattle.split_types.specs.History.{adds}
 use Rattle.split_types.specs.Rows.{◌⇒◌∣◌}
 use Rattle.split_types.specs.Calls.{returned, is_entered, is_admitted, moved, call_of}
-use Rattle.split_types.specs.Files.{bound_file}
 use Rattle.split_types.specs.Schedulers.{admits}
+use Rattle.split_types.specs.Reads.{is_loading, is_read_badly}
+use Rattle.split_types.specs.HeldPages.{is_held, is_full, is_unsettled, is_crowded}
+use Rattle.split_types.specs.Victims.{victim}
+use Rattle.split_types.specs.FileSizes.{working_file}
+use Rattle.split_types.specs.FileMaps.{mapped_block}
+use Rattle.split_types.specs.PageBytes.{sum_of_bytes}
+use Rattle.split_types.specs.Pieces.{Piece, is_whole, piece_left, got}
+
+-- ---- what decides
+
+-- what decides how a call goes on with a piece: one field for each phrase of the tables of pieces
+pub record PieceState : Type 0 where
+  -- the process, the file, and the bytes
+  pub by : Pid
+  pub serial : Serial
+  pub piece : Piece
+  -- a read of the page that this call added was done badly
+  pub read_badly : Bool
+  -- the page is loading; it is dirty or busy; it is held
+  pub loading : Bool
+  pub unsettled : Bool
+  pub held : Bool
+  -- the block of the page; none where it has none
+  pub block : Option ℕ
+  -- too many pages are dirty or busy; no place of the cache is free; the page that is evicted next
+  pub crowded : Bool
+  pub full : Bool
+  pub victim : Option Buf
+  -- the number of requests so far
+  pub adds : ℕ
+  -- the sum of the bytes
+  pub sum : ℕ
+
+abbrev pub piece_state : Workload → List Event → Pid → Serial → Piece → PieceState
+piece_state w h p serial piece = record {
+  by = p;
+  serial = serial;
+  piece = piece;
+  read_badly = is_read_badly h p.0 (Page serial piece.page);
+  loading = is_loading w h (Page serial piece.page);
+  unsettled = is_unsettled w h (Page serial piece.page);
+  held = is_held w h (Page serial piece.page);
+  block = mapped_block w h serial.0 piece.page;
+  crowded = is_crowded w h;
+  full = is_full w h;
+  victim = victim w h;
+  adds = adds h;
+  sum = sum_of_bytes w h serial piece.page piece.from piece.to;
+}
 
 -- what decides a client's next event: one field for each phrase of its table
 pub record ClientState : Type 0 where
@@ -25,10 +78,18 @@ pub record ClientState : Type 0 where
   pub entered : Bool
   pub may_admit : Bool
   pub admitted : Bool
-  -- the file that it is bound to
+  -- the file that it is bound to, where that is still there
   pub file : Option Serial
-  -- the bytes that it has put
+  -- the bytes that it has put or got, and the sum of those that it got
   pub moved : ℕ
+  pub got : ℕ
+  -- the first piece that is left; none where none is
+  pub piece : Option PieceState
+
+-- the state of the first piece that is left of the call of process p that works on a file
+abbrev pub state_left : Workload → List Event → Pid → Option Serial → Option PieceState
+state_left w h p None = None
+state_left w h p (Some serial) = option_map (piece_state w h p serial) (piece_left w h p.0)
 
 abbrev pub client_state : Workload → List Event → Pid → ClientState
 client_state w h p = record {
@@ -38,27 +99,86 @@ client_state w h p = record {
   entered = is_entered h p.0;
   may_admit = admits w h p.0;
   admitted = is_admitted h p.0;
-  file = bound_file w h p.0;
+  file = working_file w h p.0;
   moved = moved h p.0;
+  got = got h p.0;
+  piece = state_left w h p (working_file w h p.0);
 }
 
--- the piece of a write that begins at this byte of its file, with so many bytes left: it ends with the page
-abbrev pub piece : Pid → Serial → ℕ → ℕ → ℕ → Event
-piece by serial at left fill = Put by serial (at / 4096) (at % 4096) (min 4096 (at % 4096 + left)) fill
+-- ---- the tables of pieces
 
--- what comes next in an admitted write to this file: its pieces by rising byte, then its return
-abbrev pub next_of_write : ClientState → Serial → ℕ → ℕ → ℕ → Event
-next_of_write c serial off len fill =
-    nat_lt c.moved len ⇒ piece c.by serial (off + c.moved) (len - c.moved) fill
-    ∣ Ret c.by reply.Done
+-- the piece of a write is put, and that of a read is got
+abbrev pub put_of : PieceState → ℕ → Event
+put_of s fill = Put s.by s.serial s.piece.page s.piece.from s.piece.to fill
+
+abbrev pub get_of : PieceState → ℕ → Event
+get_of s sum = Get s.by s.serial s.piece.page s.piece.from s.piece.to sum
+
+-- a request to read the page from its block
+abbrev pub load_of : PieceState → ℕ → Event
+load_of s block =
+    Add (Client s.by) (record {
+      id = record { 0 = s.adds };
+      kind = kind.Read s.by s.serial s.piece.page;
+      first = block;
+      n = 1;
+    })
+
+-- a page, if there is one, is evicted by a process
+abbrev pub evict_of : Pid → Option Buf → Option Event
+evict_of by (Some (Page s g)) = Some (Evict by s g)
+evict_of by _ = None
+
+-- a write's piece in a page that isn't held, while a place is free
+abbrev pub next_of_absent : PieceState → ℕ → Option Event
+next_of_absent s fill =
+    is_whole s.piece ⇒ Some (put_of s fill)
+    ∣ elim s.block [ None ↦ Some (put_of s fill) | Some block ↦ Some (load_of s block) ]
+
+-- the table of a write's pieces
+abbrev pub next_of_put : PieceState → ℕ → Option Event
+next_of_put s fill =
+    s.read_badly ⇒ Some (Ret s.by reply.ReadFault)
+    ∣ s.loading ⇒ None
+    ∣ (not s.unsettled && s.crowded) ⇒ None
+    ∣ s.held ⇒ Some (put_of s fill)
+    ∣ s.full ⇒ evict_of s.by s.victim
+    ∣ next_of_absent s fill
+
+-- a read's piece in a page that isn't held, and has this block
+abbrev pub next_of_load : PieceState → ℕ → Option Event
+next_of_load s block =
+    s.full ⇒ evict_of s.by s.victim
+    ∣ Some (load_of s block)
+
+-- the table of a read's pieces
+abbrev pub next_of_get : PieceState → Option Event
+next_of_get s =
+    s.read_badly ⇒ Some (Ret s.by reply.ReadFault)
+    ∣ s.loading ⇒ None
+    ∣ s.held ⇒ Some (get_of s s.sum)
+    ∣ elim s.block [ None ↦ Some (get_of s 0) | Some block ↦ next_of_load s block ]
+
+-- ---- the client's table
+
+-- what comes next in an admitted write or read whose file is there: its pieces by rising byte, then its return
+abbrev pub next_of_write : ClientState → ℕ → Option Event
+next_of_write c fill = elim c.piece [ None ↦ Some (Ret c.by reply.Done) | Some s ↦ next_of_put s fill ]
+
+abbrev pub next_of_read : ClientState → Option Event
+next_of_read c = elim c.piece [ None ↦ Some (Ret c.by (reply.Count c.moved c.got)) | Some s ↦ next_of_get s ]
+
+-- what comes next in an admitted call whose file is there
+abbrev pub next_on_file : ClientState → Call → Option Event
+next_on_file c (call.Write name off len fill) = next_of_write c fill
+next_on_file c (call.Read name off len) = next_of_read c
+next_on_file c _ = None
 
 -- what comes next in an admitted call
 abbrev pub next_of_admitted : ClientState → Call → Option Event
-next_of_admitted c (Write name off len fill) =
-    elim c.file [ None ↦ None | Some serial ↦ Some (next_of_write c serial off len fill) ]
-next_of_admitted c _ = None
+next_of_admitted c call =
+    elim c.file [ None ↦ Some (Ret c.by reply.NoFile) | Some serial ↦ next_on_file c call ]
 
--- the client's table
 abbrev pub next_of_call : ClientState → Call → Option Event
 next_of_call c call =
     not c.entered ⇒ Some (Enter c.by c.number)

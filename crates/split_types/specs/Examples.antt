@@ -92,27 +92,6 @@ three_writers =
     ▹ Send (req 0) 52
     ▹ Done 0 (req 0) true
 
--- two processes overwrite a page each, and of two requests in flight the later one is done first
-abbrev pub done_the_other_way_round : List Event
-done_the_other_way_round =
-    []
-    ▹ Enter c1 0
-    ▹ Admit c1
-    ▹ Put c1 (file 0) 0 0 4096 66
-    ▹ Ret c1 reply.Done
-    ▹ Enter c2 0
-    ▹ Admit c2
-    ▹ Put c2 (file 1) 0 0 4096 66
-    ▹ Ret c2 reply.Done
-    ▹ Serve (file 0) 0 1
-    ▹ Add Wb (request 0 (Pages (file 0) 0) 526 1)
-    ▹ Serve (file 1) 0 1
-    ▹ Add Wb (request 1 (Pages (file 1) 0) 527 1)
-    ▹ Send (req 0) 52
-    ▹ Send (req 1) 2
-    ▹ Done 1 (req 1) true
-    ▹ Done 0 (req 0) true
-
 -- a second process overwrites the page after a request for it was added
 abbrev pub writer_after_add : List Event
 writer_after_add =

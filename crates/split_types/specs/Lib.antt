@@ -48,7 +48,10 @@ pub mod ServedRuns
 pub mod Failures
 pub mod PageBytes
 pub mod DiskBytes
+pub mod DiskContents
 pub mod Pieces
 pub mod CacheExamples
 pub mod WorkedCaches
 pub mod WorkedFiles
+pub mod CachedHistories
+pub mod PagesInCache

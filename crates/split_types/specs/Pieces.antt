@@ -1,5 +1,5 @@
 -- The pieces of a read or write: its bytes, parted at the ends of pages.
-use Rattle.std.specs.Prelude.{ℕ, ◌+◌, ◌-◌, ◌/◌, ◌%◌, ◌==◌, List, [], min, nat_lt, Option, Some, None, if◌then◌else◌}
+use Rattle.std.specs.Prelude.{ℕ, ◌+◌, ◌-◌, ◌/◌, ◌%◌, ◌==◌, List, [], min, nat_lt, Bool, ◌&&◌, Option, Some, None, if◌then◌else◌}
 use Rattle.split_types.specs.declared.call.Call.{Call}
 use Rattle.split_types.specs.declared.call.Call.TheVariants.{Write, Read}
 use Rattle.split_types.specs.declared.workload.Workload.{Workload}
@@ -18,6 +18,10 @@ pub record Piece : Type 0 where
 -- the piece that begins at this byte of its file, with so many bytes left: it ends with its page or with the last one
 abbrev pub piece_at : ℕ → ℕ → Piece
 piece_at at left = record { page = at / 4096; from = at % 4096; to = min 4096 (at % 4096 + left) }
+
+-- the piece is a whole page
+abbrev pub is_whole : Piece → Bool
+is_whole p = p.from == 0 && p.to == 4096
 
 -- the first byte that a call moves, in its file
 abbrev pub first_byte : Call → ℕ

@@ -2,5 +2,5 @@
 -- definition that a contract rests on.
 pub mod Runs
 pub mod Came
-pub mod Overwrites
+pub mod Pieces
 pub mod Known

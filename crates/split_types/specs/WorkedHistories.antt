@@ -7,7 +7,7 @@ use Rattle.split_types.specs.History.{adds}
 use Rattle.split_types.specs.Blame.{tag}
 use Rattle.split_types.specs.CostAndClock.{cost_of, now}
 use Rattle.split_types.specs.Bills.{bill, billed}
-use Rattle.split_types.specs.Examples.{of_version, one_overwrite, three_writers, done_the_other_way_round, writer_after_add, writer_between_serve_and_map, three_creators, two_writers_of_three_pages, late_homes, two_creators}
+use Rattle.split_types.specs.Examples.{of_version, one_overwrite, three_writers, writer_after_add, writer_between_serve_and_map, three_creators, two_writers_of_three_pages, late_homes, two_creators}
 
 -- what is due for a request: its tag, its cost, and what each process of the tag bears
 pub record Due : Type 0 where
@@ -42,9 +42,6 @@ pub record WorkedHistories : Type 0 where
   pub of_one_overwrite : IsDue (of_version 1) one_overwrite (due (1 ∷ []) 52 (52 ∷ []) ∷ []) (52 ∷ []) 52
   pub of_three_writers : IsDue (of_version 1) three_writers (due all_three 52 (18 ∷ 17 ∷ 17 ∷ []) ∷ [])
       (18 ∷ 17 ∷ 17 ∷ []) 52
-  pub of_done_the_other_way_round :
-      IsDue (of_version 1) done_the_other_way_round (due (1 ∷ []) 52 (52 ∷ []) ∷ due (2 ∷ []) 2 (2 ∷ []) ∷ [])
-      (52 ∷ 2 ∷ []) 54
   pub of_writer_after_add :
       IsDue (of_version 1) writer_after_add (due (1 ∷ []) 52 (52 ∷ []) ∷ due (2 ∷ []) 22 (22 ∷ []) ∷ [])
       (52 ∷ 22 ∷ []) 74

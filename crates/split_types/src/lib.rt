@@ -28,7 +28,8 @@ mod workload;
 pub use actor::Actor;
 pub use buf::{Buf, BufList};
 pub use caching::{
-    bytes_by_byte, pages_are_known, victims_are_oldest, worked_caches, worked_files,
+    bytes_by_byte, cached_histories, clean_pages_are_on_disk, pages_are_known, victims_are_oldest,
+    worked_caches, worked_files, writes_stay_apart,
 };
 pub use call::{Call, Reply};
 pub use draining::{drains_whole, never_stuck, plays_legal, stays_below};

@@ -1,25 +1,32 @@
 -- Only proofs need this: which row of which table an event came from, and what is known there.
-use Rattle.std.specs.Prelude.{◌≡◌, ℕ, ◌+◌, ◌-◌, ◌<◌, ◌≤◌, List, length, find, slice_get, true, Some, None, IsTrue, IsFalse}
+use Rattle.std.specs.Prelude.{◌≡◌, ℕ, ◌<◌, ◌≤◌, List, length, find, slice_get, Bool, true, false, not, ◌||◌, is_none, Option, Some, None, IsTrue, IsFalse}
 use Rattle.split_types.specs.declared.ids.Pid.{Pid}
 use Rattle.split_types.specs.declared.ids.Serial.{Serial}
+use Rattle.split_types.specs.declared.buf.Buf.{Buf}
 use Rattle.split_types.specs.declared.buf.Buf.TheVariants.{Page}
 use Rattle.split_types.specs.declared.call.Call.{Call}
-use Rattle.split_types.specs.declared.call.Call.TheVariants.{Write}
+use Rattle.split_types.specs.declared.call.Call.TheVariants.{Write, Read}
 use Rattle.split_types.specs.declared.call.Reply.TheVariants as reply
-use Rattle.split_types.specs.declared.actor.Actor.TheVariants.{Wb}
+use Rattle.split_types.specs.declared.actor.Actor.TheVariants.{Client, Wb}
+use Rattle.split_types.specs.declared.request.ReqKind.TheVariants as kind
 use Rattle.split_types.specs.declared.request.Request.{Request}
 use Rattle.split_types.specs.declared.request.Run.{Run}
 use Rattle.split_types.specs.declared.workload.Workload.{Workload}
 use Rattle.split_types.specs.declared.event.Event.{Event}
-use Rattle.split_types.specs.declared.event.Event.TheVariants.{Enter, Admit, Ret, Serve, Add, Done}
+use Rattle.split_types.specs.declared.event.Event.TheVariants.{Enter, Admit, Put, Get, Ret, Serve, Add, Done, Evict}
 use Rattle.split_types.specs.History.{adds}
 use Rattle.split_types.specs.Requests.{in_flight}
 use Rattle.split_types.specs.Calls.{returned, is_entered, is_admitted, moved, call_of}
-use Rattle.split_types.specs.Files.{bound_file}
 use Rattle.split_types.specs.Pages.{is_ready}
 use Rattle.split_types.specs.Workloads.{all_pages}
 use Rattle.split_types.specs.Schedulers.{admits, pick}
-use Rattle.split_types.specs.Clients.{piece}
+use Rattle.split_types.specs.Reads.{is_loading, is_read_badly}
+use Rattle.split_types.specs.HeldPages.{is_held, is_full, is_unsettled, is_crowded}
+use Rattle.split_types.specs.Victims.{victim}
+use Rattle.split_types.specs.FileSizes.{working_file}
+use Rattle.split_types.specs.FileMaps.{mapped_block}
+use Rattle.split_types.specs.PageBytes.{sum_of_bytes}
+use Rattle.split_types.specs.Pieces.{Piece, is_whole, piece_left, got}
 use Rattle.split_types.specs.Writeback.{service, served_run, run_length, request_for}
 use Rattle.split_types.specs.Next.{send_of}
 
@@ -29,23 +36,79 @@ pub record HasCall (w : Workload) (h : List Event) (p : Pid) (c : Call) : Type 0
   pub last : p.0 ≤ length w.procs
   pub call : call_of w h p.0 ≡ Some c
 
--- p has an admitted write under way, to this file
-pub record IsWriting (w : Workload) (h : List Event) (p : Pid) (name : List ℕ) (off len fill : ℕ) (serial : Serial) :
-    Type 0 where
-  pub has : HasCall w h p (Write name off len fill)
+-- p has an admitted call under way
+pub record IsAdmitted (w : Workload) (h : List Event) (p : Pid) (c : Call) : Type 0 where
+  pub has : HasCall w h p c
   pub entered : IsTrue (is_entered h p.0)
   pub admitted : IsTrue (is_admitted h p.0)
-  pub file : bound_file w h p.0 ≡ Some serial
+
+-- it works on this file, which is there
+pub record IsWorking (w : Workload) (h : List Event) (p : Pid) (c : Call) (serial : Serial) : Type 0 where
+  pub admitted : IsAdmitted w h p c
+  pub file : working_file w h p.0 ≡ Some serial
+
+-- this piece is the first that is left of it; its page isn't loading, and no read of it that the call added was done
+-- badly
+pub record IsAtPiece (w : Workload) (h : List Event) (p : Pid) (c : Call) (serial : Serial) (piece : Piece) : Type 0
+  where
+    pub working : IsWorking w h p c serial
+    pub left : piece_left w h p.0 ≡ Some piece
+    pub well : IsFalse (is_read_badly h p.0 (Page serial piece.page))
+    pub there : IsFalse (is_loading w h (Page serial piece.page))
+
+-- a write may put this piece: its page is dirty or busy, or the stack isn't crowded; the page is held, or a place is
+-- free, and the piece is a whole page or its page has no block
+pub record MayPut (w : Workload) (h : List Event) (b : Buf) (piece : Piece) (block : Option ℕ) : Type 0 where
+  pub settles : IsTrue (is_unsettled w h b || not (is_crowded w h))
+  pub room : IsTrue (is_held w h b || not (is_full w h))
+  pub known : IsTrue (is_held w h b || (is_whole piece || is_none block))
+
+-- the page isn't held; the cache is full, or it isn't
+pub record IsAbsent (w : Workload) (h : List Event) (b : Buf) (at_bound : Bool) : Type 0 where
+  pub absent : IsFalse (is_held w h b)
+  pub full : is_full w h ≡ at_bound
+
+-- the request for which a call reads a page from its block
+abbrev pub read_request : ℕ → Pid → Serial → ℕ → ℕ → Request
+read_request id p serial page block = record {
+  id = record { 0 = id };
+  kind = kind.Read p serial page;
+  first = block;
+  n = 1;
+}
 
 -- the event comes next after h, by one of the rows
 pub data Came (w : Workload) (h : List Event) : Event → Type 0 where
   came_enter : (p : Pid) (c : Call) → HasCall w h p c → IsFalse (is_entered h p.0) → Came w h (Enter p (returned h p.0))
   came_admit : (p : Pid) (c : Call) → HasCall w h p c → IsTrue (is_entered h p.0) → IsFalse (is_admitted h p.0)
       → IsTrue (admits w h p.0) → Came w h (Admit p)
-  came_put : (p : Pid) (name : List ℕ) (off len fill : ℕ) (serial : Serial) → IsWriting w h p name off len fill serial
-      → moved h p.0 < len → Came w h (piece p serial (off + moved h p.0) (len - moved h p.0) fill)
-  came_ret : (p : Pid) (name : List ℕ) (off len fill : ℕ) (serial : Serial) → IsWriting w h p name off len fill serial
-      → len ≤ moved h p.0 → Came w h (Ret p reply.Done)
+  came_no_file : (p : Pid) (c : Call) → IsAdmitted w h p c → working_file w h p.0 ≡ None
+      → Came w h (Ret p reply.NoFile)
+  came_wrote : (p : Pid) (name : List ℕ) (off len fill : ℕ) (serial : Serial)
+      → IsWorking w h p (Write name off len fill) serial → piece_left w h p.0 ≡ None → Came w h (Ret p reply.Done)
+  came_read : (p : Pid) (name : List ℕ) (off len : ℕ) (serial : Serial) → IsWorking w h p (Read name off len) serial
+      → piece_left w h p.0 ≡ None → Came w h (Ret p (reply.Count (moved h p.0) (got h p.0)))
+  came_fault : (p : Pid) (c : Call) (serial : Serial) (piece : Piece) → IsWorking w h p c serial
+      → piece_left w h p.0 ≡ Some piece → IsTrue (is_read_badly h p.0 (Page serial piece.page))
+      → Came w h (Ret p reply.ReadFault)
+  came_put : (p : Pid) (name : List ℕ) (off len fill : ℕ) (serial : Serial) (piece : Piece)
+      → IsAtPiece w h p (Write name off len fill) serial piece
+      → MayPut w h (Page serial piece.page) piece (mapped_block w h serial.0 piece.page)
+      → Came w h (Put p serial piece.page piece.from piece.to fill)
+  came_get : (p : Pid) (name : List ℕ) (off len : ℕ) (serial : Serial) (piece : Piece)
+      → IsAtPiece w h p (Read name off len) serial piece → IsTrue (is_held w h (Page serial piece.page))
+      → Came w h (Get p serial piece.page piece.from piece.to
+      (sum_of_bytes w h serial piece.page piece.from piece.to))
+  came_zeros : (p : Pid) (name : List ℕ) (off len : ℕ) (serial : Serial) (piece : Piece)
+      → IsAtPiece w h p (Read name off len) serial piece → IsFalse (is_held w h (Page serial piece.page))
+      → mapped_block w h serial.0 piece.page ≡ None → Came w h (Get p serial piece.page piece.from piece.to 0)
+  came_evict : (p : Pid) (c : Call) (serial : Serial) (piece : Piece) → IsAtPiece w h p c serial piece
+      → IsAbsent w h (Page serial piece.page) true → (s : Serial) (g : ℕ) → victim w h ≡ Some (Page s g)
+      → Came w h (Evict p s g)
+  came_load : (p : Pid) (c : Call) (serial : Serial) (piece : Piece) → IsAtPiece w h p c serial piece
+      → IsAbsent w h (Page serial piece.page) false → (block : ℕ)
+      → mapped_block w h serial.0 piece.page ≡ Some block
+      → Came w h (Add (Client p) (read_request (adds h) p serial piece.page block))
   came_serve : (s : Serial) (g : ℕ) → served_run (service h) ≡ None
       → find (is_ready w h) (all_pages w) ≡ Some (Page s g)
       → Came w h (Serve s g (run_length w h s g))

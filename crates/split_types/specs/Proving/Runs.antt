@@ -1,9 +1,11 @@
 -- Only proofs need this: runs of pages of preset files.
-use Rattle.std.specs.Prelude.{◌≡◌, ℕ, ◌+◌, ◌<◌, ◌≤◌, List, length, Bool, IsTrue}
+use Rattle.std.specs.Prelude.{◌≡◌, ℕ, ◌+◌, ◌<◌, ◌≤◌, ◌⊎◌, List, length, Bool, IsTrue}
+use Rattle.split_types.specs.declared.ids.Pid.{Pid}
 use Rattle.split_types.specs.declared.ids.Serial.{Serial}
 use Rattle.split_types.specs.declared.buf.Buf.{Buf}
 use Rattle.split_types.specs.declared.buf.Buf.TheVariants.{Page}
-use Rattle.split_types.specs.declared.request.ReqKind.TheVariants.{Pages}
+use Rattle.split_types.specs.declared.request.ReqKind.{ReqKind}
+use Rattle.split_types.specs.declared.request.ReqKind.TheVariants.{Read, Pages}
 use Rattle.split_types.specs.declared.request.Request.{Request}
 use Rattle.split_types.specs.declared.request.Run.{Run}
 use Rattle.split_types.specs.declared.workload.Workload.{Workload}
@@ -18,11 +20,15 @@ pub record IsPresetRun (w : Workload) (s : Serial) (g n : ℕ) : Type 0 where
   pub most : n ≤ 16
   pub within : g + n ≤ pages_in w s.0
 
--- the request writes such pages, in their blocks
-pub record WritesRun (w : Workload) (r : Request) : Type 0 where
+-- the kind of request writes pages of a file from this one on, or reads it
+abbrev pub MovesPages : ReqKind → Serial → ℕ → Type 0
+MovesPages kind serial page = (kind ≡ Pages serial page) ⊎ ((by : Pid) × (kind ≡ Read by serial page))
+
+-- the request writes such pages, or reads one, in their blocks
+pub record MovesRun (w : Workload) (r : Request) : Type 0 where
   pub serial : Serial
   pub page : ℕ
-  pub kind : r.kind ≡ Pages serial page
+  pub kind : MovesPages r.kind serial page
   pub run : IsPresetRun w serial page r.n
   pub place : r.first ≡ page_block w serial.0 page
 

@@ -9,7 +9,6 @@ unfolding pids metadata_buffers
 returns c = record {
   of_one_overwrite = record { requests = refl; processes = refl; time = refl };
   of_three_writers = record { requests = refl; processes = refl; time = refl };
-  of_done_the_other_way_round = record { requests = refl; processes = refl; time = refl };
   of_writer_after_add = record { requests = refl; processes = refl; time = refl };
   of_writer_between_serve_and_map = record { requests = refl; processes = refl; time = refl };
   of_three_creators = record { requests = refl; processes = refl; time = refl };
