@@ -1,0 +1,2 @@
+pub mod PieceRows
+pub mod ShownLaws

@@ -1,0 +1,29 @@
+-- What a process sees.
+use Rattle.std.specs.Prelude.{ℕ, ◌-◌, nat_le, Bool, Option, Some, None}
+use Rattle.split_types.specs.declared.ids.ReqId.{ReqId}
+use Rattle.split_types.specs.Pieces.{Piece, next_piece}
+use Rattle.page_cache.specs.Cached.{Cached, held_in, unsettled_in}
+use Rattle.client_calls.specs.declared.progress.Progress.{Progress}
+
+-- the cache; how many pages may be held; how many processes there are; the block of the page of the next piece; how
+-- far the process has come; whether the scheduler lets its call in; the number of requests so far
+pub record View : Type 0 where
+  pub cache : Cached
+  pub places : ℕ
+  pub n : ℕ
+  pub block : Option ℕ
+  pub progress : Progress
+  pub may_admit : Bool
+  pub next_id : ReqId
+
+-- all pages of the cache but one for each process, or more, are dirty or busy
+abbrev pub is_crowded : View → Bool
+is_crowded v = nat_le (v.places - v.n) (unsettled_in v.cache)
+
+-- as many pages are held as may be
+abbrev pub is_full : View → Bool
+is_full v = nat_le v.places (held_in v.cache)
+
+-- the first piece that is left of the call; none where none is left, or there is no call
+abbrev pub piece_left : Progress → Option Piece
+piece_left p = elim p.call [ None ↦ None | Some call ↦ next_piece call p.size_at_admit p.moved ]
