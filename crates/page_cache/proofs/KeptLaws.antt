@@ -1,6 +1,6 @@
 -- What always holds of a cache, after each step.
 use Rattle.std.proofs.Common.{◌≡◌, ◌≢◌, ℕ, ◌+◌, ◌-◌, ◌^◌, ◌<◌, ◌≤◌, Bool, true, false, List, map, length, get_or, set, replicate, Option, Some, None, IsSome, IfSome, is_some, arith, refl, ap, sym, ◌∙◌, inl, inr, length-set, get_or-set_same, get_or-set_other}
-use Rattle.std.specs.Prelude.{count_by, min, max}
+use Rattle.std.specs.Prelude.{count_by}
 use Rattle.std.proofs.lemmas.Bool.{cases_eq}
 use Rattle.std.proofs.lemmas.List.{map-set, length-replicate}
 use Rattle.std.proofs.Math.Seq.{map-set_same}
@@ -8,7 +8,8 @@ use Rattle.page_cache.specs.declared.key.PageKey.{PageKey}
 use Rattle.page_cache.specs.Guide.{Guided, IsUnused, marked, key_if}
 use Rattle.page_cache.specs.Pool.{Pooled}
 use Rattle.page_cache.specs.Held.{Held, key_in, mark_in}
-use Rattle.page_cache.specs.Cached.{is_idle, is_ready, is_unsettled, pin_in}
+use Rattle.page_cache.specs.Cached.{is_idle, is_ready, is_unsettled, is_loading, pin_in}
+use Rattle.page_cache.specs.Changes.{one_if}
 use Rattle.page_cache.specs.Kept.{ready_in, AreGuided, IsSound, AreDistinct, IsReady, IsKept}
 use Rattle.page_cache.proofs.ListLaws.{map-replicate, empty_places, empty-place, count-replicate}
 use Rattle.page_cache.proofs.SlotLaws.{count-set, some-inside}
@@ -17,18 +18,17 @@ use Rattle.page_cache.proofs.SlotLaws.{count-set, some-inside}
 
 pub kept-new : (limit count : ℕ) (g : Guided) (pool : Pooled) → limit ≤ count → 0 < count → count ≤ 2 ^ 32
     → limit < 2 ^ 32
-    → IsUnused count g → pool ≡ record { pages = 0; runs = 0; places = count }
+    → IsUnused count g → pool ≡ record { pages = 0; runs = 0; reserved = 0 }
     → IsKept limit 0 (empty_places Held count) g pool
 kept-new limit count g pool within some few small unused is =
     let none : Option Held = None in
     let len : length (empty_places Held count) ≡ count = length-replicate count none in
     let no_pages : count_by is_some (empty_places Held count) ≡ 0 = count-replicate is_some count none refl in
-    let places : pool.places ≡ count = ap (λ (p : Pooled). p.places) is in
+    let none_loads : count_by is_loading (empty_places Held count) ≡ 0 = count-replicate is_loading count none refl in
     record {
       some = rw len some;
       few = rw len few;
       small = small;
-      len = len ∙ sym places;
       guided = record {
         keys = unused.keys ∙ sym (map-replicate key_in count none);
         idle = unused.idle ∙ sym (map-replicate is_idle count none);
@@ -39,12 +39,12 @@ kept-new limit count g pool within some few small unused is =
       };
       sound = λ i. rw (empty-place {X = Held} count i) tt;
       distinct = λ i j p q h k e. let no = empty-place {X = Held} count i in absurd (cc);
-      ready = rw (no_pages, is) record {
+      ready = rw (len, no_pages, none_loads, is) record {
         within = omega arith;
         places = within;
         pages = omega arith;
         runs = omega arith;
-        room = omega arith;
+        reserved = refl;
       };
     }
 
@@ -99,11 +99,25 @@ guided-set g places at y key a is =
       touches = a.touches ∙ sym (length-set places at y);
     }
 
+-- for a page that is loading memory is reserved
+pub kept-reserved : (limit spare : ℕ) (places : List (Option Held)) (g : Guided) (pool : Pooled) (at : ℕ)
+    (x : Option Held)
+    → IsKept limit spare places g pool → get_or places at None ≡ x → IsSome x → one_if (is_loading x) ≤ pool.reserved
+kept-reserved limit spare places g pool at x k here some =
+    let none : Option Held = None in
+    let within : at < length places = some-inside places at (rw here some) in
+    let fewer : count_by is_loading (set places at none) + one_if (is_loading x) ≡ count_by is_loading places + 0 =
+    count-set is_loading places at x none within here in
+    omega (arith, fewer, k.ready.reserved)
+
 -- a page whose key stays
-pub kept-changed : (limit spare : ℕ) (places : List (Option Held)) (g : Guided) (pool : Pooled) (at : ℕ) (p q : Held)
+pub kept-changed : (limit spare spare2 : ℕ) (places : List (Option Held)) (g : Guided) (pool pool2 : Pooled) (at : ℕ)
+    (p q : Held)
     → IsKept limit spare places g pool → get_or places at None ≡ Some p → q.key ≡ p.key → length q.bytes ≡ 4096
-    → IsKept limit spare (set places at (Some q)) (marked g at q.key (mark_in (Some q))) pool
-kept-changed limit spare places g pool at p q k here key bytes =
+    → spare2 ≤ pool2.pages → spare2 ≤ pool2.runs
+    → pool2.reserved + one_if p.state.loading ≡ pool.reserved + one_if q.state.loading
+    → IsKept limit spare2 (set places at (Some q)) (marked g at q.key (mark_in (Some q))) pool2
+kept-changed limit spare spare2 places g pool pool2 at p q k here key bytes pages runs reserved =
     let within : at < length places = some-inside places at (rw here refl) in
     let sound : IsSound p = rw here at (k.sound at) in
     let keys : map key_in (set places at (Some q)) ≡ map key_in places =
@@ -113,11 +127,14 @@ kept-changed limit spare places g pool at p q k here key bytes =
     let many : count_by is_some (set places at (Some q)) ≡ count_by is_some places =
     omega (arith, count-set is_some places at (Some p) (Some q) within here)
     in
+    let loading : count_by is_loading (set places at (Some q)) + one_if p.state.loading
+    ≡ count_by is_loading places + one_if q.state.loading =
+    count-set is_loading places at (Some p) (Some q) within here
+    in
     record {
       some = rw (length-set places at (Some q)) k.some;
       few = rw (length-set places at (Some q)) k.few;
       small = k.small;
-      len = length-set places at (Some q) ∙ k.len;
       guided = record {
         keys = k.guided.keys ∙ sym keys;
         idle = guided.idle;
@@ -130,20 +147,28 @@ kept-changed limit spare places g pool at p q k here key bytes =
       distinct = distinct-set places at (Some q) within k.distinct
           (λ i a b h e same. let is : b.key ≡ p.key = sym (ap (λ (r : Held). r.key) (some-is q b e)) ∙ key in
           k.distinct i at a p h here (same ∙ is));
-      ready = rw many k.ready;
+      ready = rw (length-set places at (Some q), many) record {
+        within = k.ready.within;
+        places = k.ready.places;
+        pages = pages;
+        runs = runs;
+        reserved = omega (arith, loading, reserved, k.ready.reserved);
+      };
     }
   where
     some-is : (a b : Held) → Some a ≡ Some b → a ≡ b
     some-is a b e = cc
 
 -- other bytes alone
-pub kept-bytes : (limit spare : ℕ) (places : List (Option Held)) (g : Guided) (pool : Pooled) (at : ℕ) (p : Held)
-    (bytes : List ℕ)
+pub kept-bytes : (limit spare spare2 : ℕ) (places : List (Option Held)) (g : Guided) (pool pool2 : Pooled) (at : ℕ)
+    (p : Held) (bytes : List ℕ)
     → IsKept limit spare places g pool → get_or places at None ≡ Some p → length bytes ≡ 4096
-    → IsKept limit spare (set places at (Some record p { bytes = bytes })) g pool
-kept-bytes limit spare places g pool at p bytes k here len =
+    → spare2 ≤ pool2.pages → spare2 ≤ pool2.runs → pool2.reserved ≡ pool.reserved
+    → IsKept limit spare2 (set places at (Some record p { bytes = bytes })) g pool2
+kept-bytes limit spare spare2 places g pool pool2 at p bytes k here len pages runs reserved =
     let q : Held = record p { bytes = bytes } in
-    let changed = kept-changed limit spare places g pool at p q k here refl len in
+    let changed = kept-changed limit spare spare2 places g pool pool2 at p q k here refl len pages runs
+    (ap (λ n. n + one_if p.state.loading) reserved) in
     let keys : map key_in (set places at (Some q)) ≡ map key_in places =
     map-set_same key_in places at (Some q) None (sym (ap key_in here)) in
     let idle : map is_idle (set places at (Some q)) ≡ map is_idle places =
@@ -158,7 +183,6 @@ kept-bytes limit spare places g pool at p bytes k here len =
       some = changed.some;
       few = changed.few;
       small = changed.small;
-      len = changed.len;
       guided = record {
         keys = k.guided.keys ∙ sym keys;
         idle = k.guided.idle ∙ sym idle;
@@ -177,28 +201,34 @@ pub kept-entered : (limit spare : ℕ) (places : List (Option Held)) (g : Guided
     → IsKept limit spare places g pool → at < length places → get_or places at None ≡ None → 0 < spare
     → count_by is_some places < limit
     → IsSound q → ((i : ℕ) (p : Held) → get_or places i None ≡ Some p → p.key ≢ q.key)
-    → IsKept limit (spare - 1) (set places at (Some q))
+    → IsKept limit (spare - one_if q.state.loading) (set places at (Some q))
     (marked (record g { keys = set g.keys at (Some q.key) }) at q.key (mark_in (Some q)))
-    (record pool { pages = pool.pages - 1 })
+    (record pool {
+      pages = pool.pages - one_if q.state.loading;
+      reserved = pool.reserved + one_if q.state.loading;
+    })
 kept-entered limit spare places g pool at q k within here some room sound absent =
     let many : count_by is_some (set places at (Some q)) ≡ count_by is_some places + 1 =
     omega (arith, count-set is_some places at None (Some q) within here)
+    in
+    let loading : count_by is_loading (set places at (Some q)) + 0
+    ≡ count_by is_loading places + one_if q.state.loading =
+    count-set is_loading places at None (Some q) within here
     in
     record {
       some = rw (length-set places at (Some q)) k.some;
       few = rw (length-set places at (Some q)) k.few;
       small = k.small;
-      len = length-set places at (Some q) ∙ k.len;
       guided = guided-set g places at (Some q) q.key k.guided refl;
       sound = sound-set places at (Some q) within k.sound sound;
       distinct = distinct-set places at (Some q) within k.distinct
           (λ i a b h e same. let is : q ≡ b = cc in absurd (absent i a h (same ∙ sym (ap (λ (r : Held). r.key) is))));
-      ready = rw many record {
+      ready = rw (length-set places at (Some q), many) record {
         within = omega arith;
         places = k.ready.places;
         pages = omega (arith, k.ready.pages);
         runs = omega (arith, k.ready.runs);
-        room = omega (arith, k.ready.room, k.ready.pages);
+        reserved = omega (arith, loading, k.ready.reserved);
       };
     }
 
@@ -206,27 +236,33 @@ kept-entered limit spare places g pool at q k within here some room sound absent
 pub kept-left : (limit spare : ℕ) (places : List (Option Held)) (g : Guided) (pool : Pooled) (at : ℕ) (p : Held)
     → IsKept limit spare places g pool → get_or places at None ≡ Some p
     → IsKept limit spare (set places at None) (record (marked g at p.key (mark_in None)) { keys = set g.keys at None })
-    (record pool { pages = pool.pages + 1 })
+    (record pool {
+      pages = pool.pages + one_if p.state.loading;
+      reserved = pool.reserved - one_if p.state.loading;
+    })
 kept-left limit spare places g pool at p k here =
     let within : at < length places = some-inside places at (rw here refl) in
     let none : Option Held = None in
     let many : count_by is_some (set places at none) + 1 ≡ count_by is_some places =
     omega (arith, count-set is_some places at (Some p) none within here)
     in
+    let loading : count_by is_loading (set places at none) + one_if p.state.loading
+    ≡ count_by is_loading places + 0 =
+    count-set is_loading places at (Some p) none within here
+    in
     record {
       some = rw (length-set places at none) k.some;
       few = rw (length-set places at none) k.few;
       small = k.small;
-      len = length-set places at none ∙ k.len;
       guided = guided-set g places at none p.key k.guided refl;
       sound = sound-set places at none within k.sound tt;
       distinct = distinct-set places at none within k.distinct (λ i a b h e same. absurd (cc));
-      ready = record {
+      ready = rw (length-set places at none) record {
         within = omega (arith, k.ready.within, many);
         places = k.ready.places;
-        pages = omega (arith, k.ready.pages, k.ready.within, many);
+        pages = omega (arith, k.ready.pages);
         runs = k.ready.runs;
-        room = omega (arith, k.ready.room, many);
+        reserved = omega (arith, loading, k.ready.reserved);
       };
     }
 
@@ -239,7 +275,6 @@ kept-touched limit spare places g pool touches k len =
       some = k.some;
       few = k.few;
       small = k.small;
-      len = k.len;
       guided = record {
         keys = k.guided.keys;
         idle = k.guided.idle;
@@ -256,48 +291,20 @@ kept-touched limit spare places g pool touches k len =
 -- another pool
 pub kept-pool : (limit spare more : ℕ) (places : List (Option Held)) (g : Guided) (pool new : Pooled)
     → IsKept limit spare places g pool
-    → new.places ≡ pool.places → IsReady limit more (count_by is_some places) new → IsKept limit more places g new
-kept-pool limit spare more places g pool new k len ready =
+    → new.reserved ≡ pool.reserved → more ≤ new.pages → more ≤ new.runs → IsKept limit more places g new
+kept-pool limit spare more places g pool new k reserved pages runs =
     record {
       some = k.some;
       few = k.few;
       small = k.small;
-      len = k.len ∙ sym len;
       guided = k.guided;
       sound = k.sound;
       distinct = k.distinct;
-      ready = ready;
-    }
-
--- a pool that has more
-pub kept-more : (limit spare free n : ℕ) (places : List (Option Held)) (g : Guided) (pool new : Pooled)
-    → IsKept limit spare places g pool
-    → free + count_by is_some places ≡ limit → new.places ≡ pool.places → pool.pages ≤ new.pages
-    → new.pages ≤ max pool.pages (min free n)
-    → pool.runs ≤ new.runs → IsKept limit spare places g new
-kept-more limit spare free n places g pool new k is len pages no_more runs =
-    kept-pool limit spare spare places g pool new k len
-    record {
-      within = k.ready.within;
-      places = rw len k.ready.places;
-      pages = omega (arith, k.ready.pages, pages);
-      runs = omega (arith, k.ready.runs, runs);
-      room = omega (arith, k.ready.room, k.ready.places, no_more, is, len);
-    }
-
--- a pool that has what is asked for
-pub kept-roomed : (limit spare free n : ℕ) (places : List (Option Held)) (g : Guided) (pool new : Pooled)
-    → IsKept limit spare places g pool
-    → free + count_by is_some places ≡ limit → new.places ≡ pool.places → pool.pages ≤ new.pages
-    → new.pages ≤ max pool.pages (min free n)
-    → pool.runs ≤ new.runs → min free n ≤ new.pages → n ≤ new.runs → IsKept limit n places g new
-kept-roomed limit spare free n places g pool new k is len pages no_more runs enough_pages enough_runs =
-    let more = kept-more limit spare free n places g pool new k is len pages no_more runs in
-    kept-pool limit spare n places g pool new k len
-    record {
-      within = more.ready.within;
-      places = more.ready.places;
-      pages = omega (arith, enough_pages, is);
-      runs = enough_runs;
-      room = more.ready.room;
+      ready = record {
+        within = k.ready.within;
+        places = k.ready.places;
+        pages = pages;
+        runs = runs;
+        reserved = reserved ∙ k.ready.reserved;
+      };
     }

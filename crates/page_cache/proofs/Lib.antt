@@ -11,6 +11,7 @@ mod EachLaws
 mod RunLaws
 mod TakeLaws
 mod ChoiceLaws
+mod ContentLaws
 mod MoreLaws
 mod WriteLaws
 mod FreeLaws

@@ -10,7 +10,7 @@ use Rattle.page_cache.specs.declared.page.State.{State}
 use Rattle.page_cache.specs.Keys.{key_of, buf_of}
 use Rattle.page_cache.specs.Held.{Held}
 use Rattle.page_cache.specs.Cached.{Cached, is_page, page_of, IsDataPage}
-use Rattle.page_cache.specs.Steps.{IsPlaced, IsSlot, with_state, with_bytes}
+use Rattle.page_cache.specs.Steps.{IsPlaced, IsSlot, with_state}
 use Rattle.page_cache.specs.Changes.{ChangesOnly, KeepsTouches, Touches, page_as, loaded, written}
 use Rattle.page_cache.proofs.SlotLaws.{page-key}
 use Rattle.page_cache.proofs.CallLaws.{restates, restates-keeps, restates-touches}
@@ -80,39 +80,40 @@ module _ (old new : Cached) (b : Buf) (at : ℕ) (p : Held) (placed : IsPlaced o
   written-touches = restates-keeps old new b at p (written p) written placed here refl refl writtens
       (ap (λ (c : Cached). c.touches) e)
 
-module _ (v0 v1 v2 v3 : Cached) (b : Buf) (at : ℕ) (p : Held) (bytes : List ℕ) (placed : IsPlaced v0.places b at)
-    (here : get_or v0.places at None ≡ Some p)
-    (e1 : v1 ≡ record v0 {
-      places = set v0.places at (with_state
-          record p.state { loading = false } (get_or v0.places at None));
-    })
-    (e2 : v2 ≡ record v1 { places = set v1.places at (with_bytes (λ old. bytes) (get_or v1.places at None)) })
-    (e3 : v3 ≡ record v2 { touches = v3.touches }) where
-  first : v1.places ≡ set v0.places at (Some record p { state = record p.state { loading = false } })
-  first = ap (λ (c : Cached). c.places) e1
-      ∙ ap (λ x. set v0.places at (with_state record p.state { loading = false } x)) here
+some-held : (x : Option Held) → IsSome x → (p : Held) × (x ≡ Some p)
+some-held None h = absurd (cc)
+some-held (Some p) h = (p, refl)
 
-  second : v2.places ≡ set v0.places at (Some (loaded bytes p))
-  second =
-      set-twice v0.places v1.places v2.places at (Some record p { state = record p.state { loading = false } })
-      (with_bytes (λ old. bytes))
-      placed.slot.within first (ap (λ (c : Cached). c.places) e2)
+module _ (v0 v1 v2 : Cached) (b : Buf) (at : ℕ) (bytes : List ℕ) (placed : IsPlaced v0.places b at)
+    (e1 : v1 ≡ record v0 { places = set v0.places at (option_map (loaded bytes) (get_or v0.places at None)) })
+    (e2 : v2 ≡ record v1 { touches = v2.touches }) where
+  there : (p : Held) × (get_or v0.places at None ≡ Some p)
+  there = some-held (get_or v0.places at None) placed.held
 
-  loads : v3.places ≡ set v0.places at (Some (loaded bytes p))
-  loads = ap (λ (c : Cached). c.places) e3 ∙ second
+  abbrev p : Held
+  p = there.0
 
-  pub loaded-page : ChangesOnly v0 v3 b (option_map (loaded bytes) (page_of v0 b))
+  here : get_or v0.places at None ≡ Some p
+  here = there.1
+
+  comes : v1.places ≡ set v0.places at (Some (loaded bytes p))
+  comes = ap (λ (c : Cached). c.places) e1 ∙ ap (λ x. set v0.places at (option_map (loaded bytes) x)) here
+
+  loads : v2.places ≡ set v0.places at (Some (loaded bytes p))
+  loads = ap (λ (c : Cached). c.places) e2 ∙ comes
+
+  pub loaded-page : ChangesOnly v0 v2 b (option_map (loaded bytes) (page_of v0 b))
   loaded-page =
-      restates v0 v3 b at p (loaded bytes p) (loaded bytes) placed here refl refl loads
-      (ap (λ (c : Cached). c.limit) e3 ∙ ap (λ (c : Cached). c.limit) e2 ∙ ap (λ (c : Cached). c.limit) e1)
+      restates v0 v2 b at p (loaded bytes p) (loaded bytes) placed here refl refl loads
+      (ap (λ (c : Cached). c.limit) e2 ∙ ap (λ (c : Cached). c.limit) e1)
 
-  pub loaded-touched : length v2.touches ≡ length v2.places → IsTouched v2.touches v3.touches at → Touches v0 v3 b
+  pub loaded-touched : length v1.touches ≡ length v1.places → IsTouched v1.touches v2.touches at → Touches v0 v2 b
   loaded-touched len touched =
-      let touches : v2.touches ≡ v0.touches = ap (λ (c : Cached). c.touches) e2 ∙ ap (λ (c : Cached). c.touches) e1 in
-      let same_len : length v2.places ≡ length v0.places = ap length second
+      let touches : v1.touches ≡ v0.touches = ap (λ (c : Cached). c.touches) e1 in
+      let same_len : length v1.places ≡ length v0.places = ap length comes
       ∙ length-set v0.places at (Some (loaded bytes p)) in
-      restates-touches v0 v3 b at p (loaded bytes p) (loaded bytes) placed here refl refl loads
+      restates-touches v0 v2 b at p (loaded bytes p) (loaded bytes) placed here refl refl loads
       (sym (ap length touches) ∙ len ∙ same_len) (rw touches at touched)
 
-  pub loaded-spare : v3.spare ≡ v0.spare
-  loaded-spare = ap (λ (c : Cached). c.spare) e3 ∙ ap (λ (c : Cached). c.spare) e2 ∙ ap (λ (c : Cached). c.spare) e1
+  pub loaded-spare : v2.spare ≡ v0.spare
+  loaded-spare = ap (λ (c : Cached). c.spare) e2 ∙ ap (λ (c : Cached). c.spare) e1

@@ -1,5 +1,5 @@
 -- What a write does, and what the beginning of a load does, put together from their steps.
-use Rattle.std.proofs.Common.{◌≡◌, ℕ, ◌+◌, ◌<◌, ◌≤◌, true, false, List, length, get_or, set, Option, Some, None, IsSome, arith, refl, ap, sym, ◌∙◌, length-set, get_or-set_same}
+use Rattle.std.proofs.Common.{◌≡◌, ℕ, ◌+◌, ◌<◌, ◌≤◌, true, false, List, length, get_or, set, Option, Some, None, IsSome, arith, refl, ap, sym, ◌∙◌, ◌-◌, length-set, get_or-set_same}
 use Rattle.std.specs.Option.{option_map}
 use Rattle.std.specs.List.{position_or_len}
 use Rattle.fixed_places.specs.Recency.{IsTouched}
@@ -34,6 +34,7 @@ module _ (v0 v1 v2 v3 v4 : Cached) (b : Buf) (at from to byte t : ℕ) (e1 : v1 
     (e3 : v3 ≡ record v2 {
       places = set v2.places at (with_bytes (λ bytes. filled bytes from to byte)
           (get_or v2.places at None));
+      spare = v2.spare - 1;
     })
     (e4 : v4 ≡ record v3 { touches = v4.touches }) where
   same_places : v1.places ≡ v0.places
@@ -76,7 +77,7 @@ module _ (v0 v1 v2 v3 v4 : Cached) (b : Buf) (at from to byte t : ℕ) (e1 : v1 
   pub written-touched : IsTouched v3.touches v4.touches at → IsTouched v0.touches v4.touches at
   written-touched touched = rw same_touches at touched
 
-  pub written-spare : v4.spare ≡ v2.spare
+  pub written-spare : v4.spare ≡ v2.spare - 1
   written-spare = ap (λ (c : Cached). c.spare) e4 ∙ ap (λ (c : Cached). c.spare) e3
 
 -- ---- the beginning of a load
@@ -91,17 +92,17 @@ begins v0 v1 v2 b by key at e is none enters =
     let within : at < length v0.places = rw same_places at enters.within in
     let empty : get_or v0.places at None ≡ None = rw same_places at enters.empty in
     let slot = slot-free b v0.places at within empty none in
-    let own = as-own b enters.bytes None state in
-    let places : v2.places ≡ set v0.places at (page_as b enters.bytes None state) =
+    let own = as-own b zeros None state in
+    let places : v2.places ≡ set v0.places at (page_as b zeros None state) =
     ap (λ (c : Cached). c.places) enters.is
-    ∙ ap (λ ps. set ps at (Some record { key = key; bytes = enters.bytes; tag = None; state = state })) same_places
-    ∙ ap (set v0.places at) (sym (as-keyed b key enters.bytes None state is))
+    ∙ ap (λ ps. set ps at (Some record { key = key; bytes = zeros; tag = None; state = state })) same_places
+    ∙ ap (set v0.places at) (sym (as-keyed b key zeros None state is))
     in
     record {
-      bytes = enters.bytes;
-      page = slot-changes v0 v2 b at None (page_as b enters.bytes None state) slot own places
+      bytes = zeros;
+      page = slot-changes v0 v2 b at None (page_as b zeros None state) slot own places
           (ap (λ (c : Cached). c.limit) enters.is ∙ ap (λ (c : Cached). c.limit) e);
-      touches = slot-keeps v0 v2 b at None (page_as b enters.bytes None state) slot own places
+      touches = slot-keeps v0 v2 b at None (page_as b zeros None state) slot own places
           (ap (λ (c : Cached). c.touches) enters.is ∙ ap (λ (c : Cached). c.touches) e);
     }
 
@@ -135,36 +136,22 @@ dirties-held v0 v1 b at t p placed here e =
     (ap (λ (c : Cached). c.places) e ∙ ap (set v0.places at) now) (ap (λ (c : Cached). c.touches) e)
     (ap (λ (c : Cached). c.limit) e)
 
-pub dirties-new : (v0 v1 v2 : Cached) (b : Buf) (at t : ℕ) (key : PageKey) (state : State) → key_of b ≡ Some key
+pub dirties-new : (v0 v1 : Cached) (b : Buf) (at t : ℕ) (key : PageKey) (state : State) → key_of b ≡ Some key
     → page_of v0 b ≡ None
     → state ≡ state_in None → Enters v0 v1 key (Some t) state at
-    → v2 ≡ record v1 { places = set v1.places at (with_bytes (λ bytes. zeros) (get_or v1.places at None)) }
-    → v2 ≡ record v0 {
+    → v1 ≡ record v0 {
       places = set v0.places at (page_as b (bytes_in (page_of v0 b)) (Some t)
           (state_in (page_of v0 b)));
-      spare = v2.spare;
+      spare = v1.spare;
     }
-dirties-new v0 v1 v2 b at t key state is none fresh enters e =
-    let q : Held = record { key = key; bytes = enters.bytes; tag = Some t; state = state } in
-    let twice : v2.places ≡ set v0.places at (Some record q { bytes = zeros }) =
-    set-twice v0.places v1.places v2.places at (Some q) (with_bytes (λ bytes. zeros)) enters.within
-    (ap (λ (c : Cached). c.places) enters.is)
-    (ap (λ (c : Cached). c.places) e)
-    in
-    let now : Some record q { bytes = zeros } ≡ page_as b (bytes_in (page_of v0 b)) (Some t) (state_in (page_of v0 b)) =
+dirties-new v0 v1 b at t key state is none fresh enters =
+    let q : Held = record { key = key; bytes = zeros; tag = Some t; state = state } in
+    let now : Some q ≡ page_as b (bytes_in (page_of v0 b)) (Some t) (state_in (page_of v0 b)) =
     let made : State → Option Held = λ s. let r : Held = record { key = key; bytes = zeros; tag = Some t; state = s } in
     Some r in
     rw none (ap made fresh ∙ sym (as-keyed b key zeros (Some t) (state_in None) is))
     in
-    cached-as v2 v0 (set v0.places at (page_as b (bytes_in (page_of v0 b)) (Some t) (state_in (page_of v0 b))))
-    (twice ∙ ap (set v0.places at) now)
-    (ap (λ (c : Cached). c.touches) e ∙ ap (λ (c : Cached). c.touches) enters.is)
-    (ap (λ (c : Cached). c.limit) e ∙ ap (λ (c : Cached). c.limit) enters.is)
-
--- a place that is full after a page came
-pub entered-some : (v0 v1 : Cached) (key : PageKey) (tag : Option ℕ) (state : State) (at : ℕ)
-    → Enters v0 v1 key tag state at
-    → IsSome (get_or v1.places at None)
-entered-some v0 v1 key tag state at enters =
-    let q : Held = record { key = key; bytes = enters.bytes; tag = tag; state = state } in
-    rw (ap (λ (c : Cached). c.places) enters.is, get_or-set_same v0.places at (Some q) None enters.within) refl
+    cached-as v1 v0 (set v0.places at (page_as b (bytes_in (page_of v0 b)) (Some t) (state_in (page_of v0 b))))
+    (ap (λ (c : Cached). c.places) enters.is ∙ ap (set v0.places at) now)
+    (ap (λ (c : Cached). c.touches) enters.is)
+    (ap (λ (c : Cached). c.limit) enters.is)

@@ -18,7 +18,7 @@ pub record Held : Type 0 where
 abbrev pub seen : {T : Type 0} → (T → ℕ) → Option (Page T) → Option Held
 seen number None = None
 seen number (Some p) =
-    Some record { key = p.key; bytes = p.bytes.items; tag = option_map number p.tag; state = p.state }
+    Some record { key = p.key; bytes = p.bytes; tag = option_map number p.tag; state = p.state }
 
 -- the mark of a page, dirty or not, that stands so
 abbrev pub mark_of : Bool → State → Mark

@@ -1,10 +1,10 @@
 -- What always holds of a cache: the guide finds each page, and the memory that is needed stands ready.
-use Rattle.std.specs.Prelude.{◌≡◌, ℕ, ◌+◌, ◌-◌, ◌^◌, ◌<◌, ◌≤◌, min, List, map, length, slice_index_or, Option, Some, None, is_some, IfSome, count_by}
+use Rattle.std.specs.Prelude.{◌≡◌, ℕ, ◌^◌, ◌<◌, ◌≤◌, List, map, length, slice_index_or, Option, Some, None, is_some, IfSome, count_by}
 use Rattle.page_cache.specs.declared.key.PageKey.{PageKey}
 use Rattle.page_cache.specs.Guide.{Guided, key_if}
 use Rattle.page_cache.specs.Pool.{Pooled}
 use Rattle.page_cache.specs.Held.{Held, key_in, mark_in}
-use Rattle.page_cache.specs.Cached.{is_idle, is_ready, is_unsettled, pin_in}
+use Rattle.page_cache.specs.Cached.{is_idle, is_ready, is_unsettled, pin_in, is_loading}
 
 -- the page in a place, if it is ready
 abbrev pub ready_in : Option Held → Option PageKey
@@ -31,20 +31,20 @@ AreDistinct places =
     (i j : ℕ) (p q : Held) → slice_index_or places i None ≡ Some p → slice_index_or places j None ≡ Some q
     → p.key ≡ q.key → i ≡ j
 
--- memory stands ready for as many pages as may come, and for as many runs
-pub record IsReady (limit spare held : ℕ) (pool : Pooled) : Type 0 where
+-- memory stands ready for as many pages and as many runs as there is room for calls, and is reserved for each
+-- page that is loading
+pub record IsReady (limit spare count held loading : ℕ) (pool : Pooled) : Type 0 where
   pub within : held ≤ limit
-  pub places : limit ≤ pool.places
-  pub pages : min spare (limit - held) ≤ pool.pages
+  pub places : limit ≤ count
+  pub pages : spare ≤ pool.pages
   pub runs : spare ≤ pool.runs
-  pub room : pool.pages + held ≤ pool.places
+  pub reserved : pool.reserved ≡ loading
 
 pub record IsKept (limit spare : ℕ) (places : List (Option Held)) (g : Guided) (pool : Pooled) : Type 0 where
   pub some : 0 < length places
   pub few : length places ≤ 2 ^ 32
   pub small : limit < 2 ^ 32
-  pub len : length places ≡ pool.places
   pub guided : AreGuided g places
   pub sound : (i : ℕ) → IfSome (slice_index_or places i None) IsSound
   pub distinct : AreDistinct places
-  pub ready : IsReady limit spare (count_by is_some places) pool
+  pub ready : IsReady limit spare (length places) (count_by is_some places) (count_by is_loading places) pool

@@ -9,3 +9,4 @@ pub mod Keys
 pub mod Pins
 pub mod Pool
 pub mod Steps
+pub mod Stored

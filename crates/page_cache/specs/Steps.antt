@@ -4,8 +4,10 @@ use Rattle.std.specs.List.{position_or_len}
 use Rattle.split_types.specs.declared.buf.Buf.{Buf}
 use Rattle.page_cache.specs.declared.key.PageKey.{PageKey}
 use Rattle.page_cache.specs.declared.page.State.{State}
+use Rattle.page_cache.specs.Bytes.{zeros}
 use Rattle.page_cache.specs.Held.{Held}
 use Rattle.page_cache.specs.Cached.{Cached, is_page}
+use Rattle.page_cache.specs.Changes.{one_if}
 
 -- a place holds the page or, where no place does, is empty
 pub record IsSlot (places : List (Option Held)) (b : Buf) (at : ℕ) (x : Option Held) : Type 0 where
@@ -20,16 +22,14 @@ pub record IsPlaced (places : List (Option Held)) (b : Buf) (at : ℕ) : Type 0 
   pub slot : IsSlot places b at (slice_index_or places at None)
   pub held : IsSome (slice_index_or places at None)
 
--- a page comes into an empty place; what bytes it has isn't said
+-- a page of zeros comes into an empty place; if it is loading, there is room for one call less
 pub record Enters (old new : Cached) (key : PageKey) (tag : Option ℕ) (state : State) (at : ℕ) : Type 0 where
   pub within : at < length old.places
   pub empty : slice_index_or old.places at None ≡ None
-  pub bytes : List ℕ
-  pub len : length bytes ≡ 4096
   pub is :
       new ≡ record old {
-        places = slice_set old.places at (Some record { key = key; bytes = bytes; tag = tag; state = state });
-        spare = old.spare - 1;
+        places = slice_set old.places at (Some record { key = key; bytes = zeros; tag = tag; state = state });
+        spare = old.spare - one_if state.loading;
       }
 
 -- a page of another tag and another state

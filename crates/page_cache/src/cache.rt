@@ -86,8 +86,7 @@ impl<S: TagStore> Cache<S> {
         if n <= self.spare {
             return Ok(());
         }
-        let free = self.limit as usize - self.guide.held();
-        self.pool.room(alloc, free.min(n as usize), n as usize)?;
+        self.pool.room(alloc, n as usize, n as usize)?;
         self.spare = n;
         Ok(())
     }
@@ -140,7 +139,7 @@ impl<S: TagStore> Cache<S> {
     fn page(&self, at: usize) -> &Page<S::Tag>
         requires { IsSome (slice_index_or self.now.places at None) }
         ensures page { slice_index_or self.now.places at None ≡ seen S.number (Some result.now) }
-        ensures len { length result.now.bytes.items ≡ 4096 }
+        ensures len { length result.now.bytes ≡ 4096 }
     {
         self.places[at].as_ref().unwrap()
     }

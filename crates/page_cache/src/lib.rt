@@ -15,14 +15,16 @@
 //!
 //! A page is found by its key in a few steps, and the first dirty page and the victim in a number of steps that
 //! grows with the logarithm of the number of places. The bytes of a page are copied where it is loaded and where
-//! it is taken out, and never else.
+//! it is taken out, and never else. Those of a page that are all the same take no memory: they are kept as one
+//! byte.
 //!
-//! It is for a core that serves the clients' calls from pages and lets writeback take them out. No crate of the
-//! program uses it yet.
+//! The core serves the clients' calls from these pages, and lets writeback take them out. `client_calls` looks into
+//! them.
 #![tactic(auto)]
 
 mod bytes;
 mod cache;
+mod content;
 mod guide;
 mod key;
 mod page;

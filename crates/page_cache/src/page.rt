@@ -2,6 +2,7 @@
 ghost use Rattle.std.specs.Prelude.{◌≡◌, None};
 ghost use Rattle.page_cache.specs.Held.{mark_of, mark_in, state_in};
 
+use crate::content::Content;
 use crate::key::PageKey;
 use split_types::Pid;
 
@@ -31,7 +32,7 @@ impl State {
 #[derive(Debug, Drop)]
 pub(crate) struct Page<T> {
     pub(crate) key: PageKey,
-    pub(crate) bytes: Vec<u8>,
+    pub(crate) bytes: Content,
     /// The tag of its causes, where it is dirty.
     pub(crate) tag: Option<T>,
     pub(crate) state: State,

@@ -1,6 +1,6 @@
 //! Memory that is ready for pages.
-ghost use Rattle.std.specs.Prelude.{◌≡◌, ◌+◌, ◌-◌, ◌*◌, ◌<◌, ◌≤◌, ◌^◌, [], length, max, All, vec_len, vec_capacity, IfOk, OnOk, OnErr};
-ghost use Rattle.page_cache.specs.Pool.{Pooled, IsRun};
+ghost use Rattle.std.specs.Prelude.{◌≡◌, ◌+◌, ◌-◌, ◌*◌, ◌<◌, ◌≤◌, ◌^◌, [], length, All, vec_len, vec_capacity, IfOk, OnOk, OnErr};
+ghost use Rattle.page_cache.specs.Pool.{IsRun, KeepsAll};
 
 use crate::bytes::PAGE;
 use std::alloc::{AllocError, Global};
@@ -9,37 +9,38 @@ use std::marker::Model;
 /// How many pages are taken out together at most.
 pub(crate) const RUN: usize = 16;
 
-/// Memory for pages that no place uses, and for pages that are taken out.
+/// Memory for pages that no page has, some of it reserved for pages that are awaited, and memory for pages
+/// that are taken out.
 #[derive(Debug, Drop)]
 pub(crate) struct Pool {
     // Each with the bytes of one page, whatever they are.
     pages: Vec<Vec<u8>>,
+    // How many of them are reserved.
+    reserved: usize,
     // Each empty, with room for a whole run of pages.
     runs: Vec<Vec<u8>>,
 }
 
 impl Model for Pool {
-    ghost use Rattle.std.specs.Prelude.{vec_len, vec_capacity};
+    ghost use Rattle.std.specs.Prelude.{◌-◌, vec_len};
     ghost use Rattle.page_cache.specs.Pool.{Pooled, IsPool};
 
     ghost Value = { Pooled };
 
-    ghost view = { λ p. record { pages = vec_len p.pages; runs = vec_len p.runs; places = vec_capacity p.pages } };
+    ghost view = { λ p. record { pages = vec_len p.pages - p.reserved; runs = vec_len p.runs; reserved = p.reserved } };
 
-    ghost invariant = { λ p. IsPool p.pages.items p.runs.items };
+    ghost invariant = { λ p. IsPool p.pages.items p.runs.items p.reserved };
 }
 
 /// Makes memory for so many pages, as far as it isn't there.
 fn make_pages(alloc: Global, ready: &mut Vec<Vec<u8>>, pages: usize) -> Result<(), AllocError>
-    requires room { pages ≤ vec_capacity ready.old }
     requires sized { All (λ page. length page.items ≡ 4096) ready.old.items }
     ensures sized { All (λ page. length page.items ≡ 4096) ready.new.items }
     ensures more { vec_len ready.old ≤ vec_len ready.new }
-    ensures no_more { vec_len ready.new ≤ max (vec_len ready.old) pages }
-    ensures capacity { vec_capacity ready.new ≡ vec_capacity ready.old }
     ensures ok { OnOk result (pages ≤ vec_len ready.new) }
 {
     while ready.len() < pages {
+        ready.reserve(1)?;
         ready.push_reserved(vec![in alloc; 0; PAGE]?);
     }
     Ok(())
@@ -60,12 +61,13 @@ fn make_runs(alloc: Global, ready: &mut Vec<Vec<u8>>, runs: usize) -> Result<(),
 }
 
 impl Pool {
-    /// Nothing, with room to be given the pages of so many places.
-    pub(crate) fn new(alloc: Global, places: usize) -> Result<Pool, AllocError>
-        ensures { IfOk result (λ p. p ≡ record { pages = 0; runs = 0; places = places }) }
+    /// Nothing, with room to be given the memory of so many pages.
+    pub(crate) fn new(alloc: Global, pages: usize) -> Result<Pool, AllocError>
+        ensures { IfOk result (λ p. p ≡ record { pages = 0; runs = 0; reserved = 0 }) }
     {
         Ok(Pool {
-            pages: Vec::with_capacity(alloc, places)?,
+            pages: Vec::with_capacity(alloc, pages)?,
+            reserved: 0,
             runs: Vec::new(alloc),
         })
     }
@@ -77,16 +79,31 @@ impl Pool {
         pages: usize,
         runs: usize,
     ) -> Result<(), AllocError>
-        requires { pages ≤ self.old.places }
+        requires { pages < 2 ^ 32 }
         ensures pages { self.old.pages ≤ self.new.pages }
-        ensures no_more { self.new.pages ≤ max self.old.pages pages }
         ensures runs { self.old.runs ≤ self.new.runs }
-        ensures places { self.new.places ≡ self.old.places }
+        ensures reserved { self.new.reserved ≡ self.old.reserved }
         ensures ok_pages { OnOk result (pages ≤ self.new.pages) }
         ensures ok_runs { OnOk result (runs ≤ self.new.runs) }
     {
-        make_pages(alloc, &mut self.pages, pages)?;
+        make_pages(alloc, &mut self.pages, self.reserved + pages)?;
         make_runs(alloc, &mut self.runs, runs)
+    }
+
+    /// Reserves the memory of so many pages.
+    pub(crate) fn reserve(&mut self, pages: usize)
+        requires { pages ≤ self.old.pages }
+        ensures { self.new ≡ record self.old { pages = self.old.pages - pages; reserved = self.old.reserved + pages } }
+    {
+        self.reserved += pages;
+    }
+
+    /// Lets the memory of so many pages be reserved no more.
+    pub(crate) fn release(&mut self, pages: usize)
+        requires { pages ≤ self.old.reserved }
+        ensures { self.new ≡ record self.old { pages = self.old.pages + pages; reserved = self.old.reserved - pages } }
+    {
+        self.reserved -= pages;
     }
 
     /// The memory of a page, with any bytes.
@@ -98,13 +115,14 @@ impl Pool {
         self.pages.pop().unwrap()
     }
 
-    /// Takes the memory of a page back.
+    /// Takes the memory of a page back, or lets it go where there is no room for it.
     pub(crate) fn give(&mut self, page: Vec<u8>)
-        requires room { self.old.pages < self.old.places }
-        requires len { length page.items ≡ 4096 }
-        ensures { self.new ≡ record self.old { pages = self.old.pages + 1 } }
+        requires { length page.items ≡ 4096 }
+        ensures { KeepsAll self.old self.new }
     {
-        self.pages.push_reserved(page);
+        if self.pages.len() < self.pages.capacity() {
+            self.pages.push_reserved(page);
+        }
     }
 
     /// Room for the bytes of so many pages: its own, or, where memory is wanting, what stood ready.
@@ -114,7 +132,7 @@ impl Pool {
         ensures empty { result.items ≡ [] }
         ensures room { pages * 4096 ≤ vec_capacity result }
         ensures pages { self.new.pages ≡ self.old.pages }
-        ensures places { self.new.places ≡ self.old.places }
+        ensures reserved { self.new.reserved ≡ self.old.reserved }
         ensures runs { self.old.runs ≤ self.new.runs + 1 }
     {
         match Vec::with_capacity(alloc, pages * PAGE) {

@@ -1,20 +1,21 @@
 //! The steps of which the calls are made.
-ghost use Rattle.std.specs.Prelude.{◌≡◌, ◌-◌, ◌<◌, ◌≤◌, length, slice_set, slice_index_or, None, IsSome, option_map};
+ghost use Rattle.std.specs.Prelude.{◌≡◌, ◌-◌, ◌<◌, ◌≤◌, length, slice_set, slice_index_or, None, IsSome, option_map, true};
 ghost use Rattle.fixed_places.specs.Recency.{IsTouched};
-ghost use Rattle.page_cache.specs.Bytes.{filled, zeros};
+ghost use Rattle.page_cache.specs.Bytes.{filled};
 ghost use Rattle.page_cache.specs.Keys.{buf_of};
-ghost use Rattle.page_cache.specs.Cached.{page_of, held_in, tag_in};
+ghost use Rattle.page_cache.specs.Cached.{page_of, held_in, tag_in, is_loading};
+ghost use Rattle.page_cache.specs.Changes.{loaded};
 ghost use Rattle.page_cache.specs.Steps.{Enters, changed, with_bytes, with_state};
 
 use super::Cache;
-use crate::bytes;
+use crate::content::Content;
 use crate::key::PageKey;
 use crate::page::{Mark, Page, State};
 use cause_set::TagStore;
 use std::mem;
 
 impl<S: TagStore> Cache<S> {
-    /// Puts a page that isn't held into a free place, with bytes that are none of its own.
+    /// Puts a page that isn't held into a free place, with zeros.
     pub(super) fn enter(&mut self, key: PageKey, tag: Option<S::Tag>, state: State) -> usize
         requires absent { page_of self.old (buf_of key) ≡ None }
         requires number { key.page < 1008 }
@@ -22,13 +23,13 @@ impl<S: TagStore> Cache<S> {
         requires ready { 0 < self.old.spare }
         ensures { Enters self.old self.new key (option_map S.number tag) state result }
     {
-        let bytes = self.pool.take();
-        self.spare -= 1;
+        self.pool.reserve(usize::from(state.loading));
+        self.spare -= u32::from(state.loading);
         let at = self.guide.enter(key);
         self.guide.mark(at, key, Mark::of(tag.is_some(), state));
         self.places[at] = Some(Page {
             key,
-            bytes,
+            bytes: Content::filled(0),
             tag,
             state,
         });
@@ -44,13 +45,15 @@ impl<S: TagStore> Cache<S> {
         let page = self.places[at].take().unwrap();
         self.guide.mark(at, page.key, Mark::none());
         self.guide.leave(at);
-        self.pool.give(page.bytes);
+        self.pool.release(usize::from(page.state.loading));
+        page.bytes.give_back(&mut self.pool);
         page.tag
     }
 
     /// Gives a page another tag and another state, and hands out the tag that it had.
     pub(super) fn change(&mut self, at: usize, tag: Option<S::Tag>, state: State) -> Option<S::Tag>
-        requires { IsSome (slice_index_or self.old.places at None) }
+        requires page { IsSome (slice_index_or self.old.places at None) }
+        requires loading { state.loading ≡ is_loading (slice_index_or self.old.places at None) }
         ensures tag { option_map S.number result ≡ tag_in (slice_index_or self.old.places at None) }
         ensures rest { self.new ≡ record self.old {
           places = slice_set self.old.places at
@@ -68,7 +71,8 @@ impl<S: TagStore> Cache<S> {
 
     /// Gives a page another state.
     pub(super) fn restate(&mut self, at: usize, state: State)
-        requires { IsSome (slice_index_or self.old.places at None) }
+        requires page { IsSome (slice_index_or self.old.places at None) }
+        requires loading { state.loading ≡ is_loading (slice_index_or self.old.places at None) }
         ensures { self.new ≡ record self.old {
           places = slice_set self.old.places at
               (with_state state (slice_index_or self.old.places at None));
@@ -86,37 +90,35 @@ impl<S: TagStore> Cache<S> {
         requires page { IsSome (slice_index_or self.old.places at None) }
         requires order { from < to }
         requires within { to ≤ 4096 }
+        requires ready { 0 < self.old.spare }
         ensures { self.new ≡ record self.old {
           places = slice_set self.old.places at
               (with_bytes (λ bytes. filled bytes from to byte) (slice_index_or self.old.places at None));
+          spare = self.old.spare - 1;
         } }
     {
+        self.spare -= 1;
         let page = self.places[at].as_mut().unwrap();
-        bytes::fill(&mut page.bytes, from as usize, to as usize, byte);
+        page.bytes
+            .fill(&mut self.pool, from as usize, to as usize, byte);
     }
 
-    /// Gives a page zeros.
-    pub(super) fn clear(&mut self, at: usize)
-        requires { IsSome (slice_index_or self.old.places at None) }
-        ensures { self.new ≡ record self.old {
-          places = slice_set self.old.places at (with_bytes (λ bytes. zeros) (slice_index_or self.old.places at None));
-        } }
-    {
-        let page = self.places[at].as_mut().unwrap();
-        bytes::clear(&mut page.bytes);
-    }
-
-    /// Gives a page these bytes.
+    /// Gives a page that is loading its bytes.
     pub(super) fn copy_in(&mut self, at: usize, bytes: &[u8])
-        requires page { IsSome (slice_index_or self.old.places at None) }
+        requires loading { is_loading (slice_index_or self.old.places at None) ≡ true }
         requires len { length bytes.now ≡ 4096 }
         ensures { self.new ≡ record self.old {
-          places = slice_set self.old.places at (with_bytes (λ old. bytes.now)
-              (slice_index_or self.old.places at None));
+          places = slice_set self.old.places at
+              (option_map (loaded bytes.now) (slice_index_or self.old.places at None));
         } }
     {
+        self.pool.release(1);
         let page = self.places[at].as_mut().unwrap();
-        page.bytes.copy_from_slice(bytes);
+        page.bytes.copy_in(&mut self.pool, bytes);
+        page.state.loading = false;
+        let mark = Mark::of(page.tag.is_some(), page.state);
+        let key = page.key;
+        self.guide.mark(at, key, mark);
     }
 
     /// Touches the page in a place.

@@ -43,11 +43,6 @@ impl<S: TagStore> Cache<S> {
         ensures spare { self.new.spare ≡ self.old.spare }
     {
         let at = self.place_of(b).unwrap();
-        let state = State {
-            loading: false,
-            ..self.page(at).state
-        };
-        self.restate(at, state);
         self.copy_in(at, bytes);
         self.touch(at);
     }

@@ -61,7 +61,7 @@ impl<S: TagStore> Cache<S> {
         let mut bytes = self.take_run(alloc, n);
         for k in 0..n {
             let at = self.place_of(Buf::Page(s, page + k)).unwrap();
-            let _ = bytes.extend_from_slice(&self.page(at).bytes);
+            self.page(at).bytes.append_to(&mut bytes);
             self.take_page(tags, at);
         }
         Ok((bytes, tag))

@@ -7,7 +7,6 @@ ghost use Rattle.page_cache.specs.Held.{state_in};
 ghost use Rattle.page_cache.specs.Steps.{IsSlot};
 
 use super::Cache;
-use crate::bytes::sum;
 use crate::key::PageKey;
 use crate::page::State;
 use crate::tags::{joined, let_go};
@@ -47,7 +46,7 @@ impl<S: TagStore> Cache<S> {
         requires within { to ≤ 4096 }
         ensures { result ≡ sum (slice_range (bytes_in (slice_index_or self.now.places at None)) from to) }
     {
-        sum(&self.page(at).bytes[from as usize..to as usize])
+        self.page(at).bytes.sum(from as usize, to as usize)
     }
 
     /// The bytes `from` to `to - 1` of a page become `fill`, on behalf of a process. A page that isn't held
@@ -101,7 +100,7 @@ impl<S: TagStore> Cache<S> {
               (page_as b (bytes_in (page_of self.old b)) (Some (S.number tag)) (state_in (page_of self.old b)));
           spare = self.new.spare;
         } }
-        ensures spare { self.old.spare ≤ self.new.spare + 1 }
+        ensures spare { self.new.spare ≡ self.old.spare }
         ensures moved { Moved (S.now tags.old) (S.now tags.new) (use_in same (tag_in (page_of self.old b))) no_use }
         ensures tags_spare { (S.now tags.old).spare ≤ (S.now tags.new).spare }
     {
@@ -111,8 +110,6 @@ impl<S: TagStore> Cache<S> {
             let_go(tags, old);
             return at;
         }
-        let at = self.enter(PageKey::of(b).unwrap(), Some(tag), State::new());
-        self.clear(at);
-        at
+        self.enter(PageKey::of(b).unwrap(), Some(tag), State::new())
     }
 }

@@ -1,5 +1,5 @@
-use Rattle.std.proofs.Common.{◌≡◌, ◌≤◌, ◌-◌, length, max, vec_len}
-use Rattle.std.specs.Prelude.{All, vec_capacity}
+use Rattle.std.proofs.Common.{◌≤◌, ◌-◌, vec_len}
+use Rattle.std.specs.Prelude.{All}
 use Rattle.page_cache.specs.Pool.{IsRun}
 use Rattle.page_cache.proofs.pool.make_runs.Given as goal
 

@@ -1,4 +1,4 @@
-use Rattle.std.proofs.Common.{◌≡◌, ◌∙◌, ◌∷◌, [], sym}
+use Rattle.std.proofs.Common.{◌∙◌, ◌∷◌, [], sym}
 use Rattle.split_types.proofs.Sets.{union-empty, union-one, one-is_set}
 use Rattle.page_cache.proofs.tags.joined.Goals as goal
 

@@ -1,5 +1,4 @@
-use Rattle.std.proofs.Common.{◌≡◌, ◌∙◌, ◌≤◌, Some, ap, sym, arith}
-use Rattle.page_cache.specs.Keys.{key_of}
+use Rattle.std.proofs.Common.{◌∙◌, ap, sym, arith}
 use Rattle.page_cache.specs.Cached.{Cached}
 use Rattle.page_cache.proofs.MoreLaws.{key-buf, key-number, key-there}
 use Rattle.page_cache.proofs.WriteLaws.{begins}

@@ -1,28 +1,47 @@
-use Rattle.std.proofs.Common.{◌≡◌, ◌∙◌, Some, None, IfSome, get_or, length, ap, sym, arith}
+use Rattle.std.proofs.Common.{◌≡◌, ◌∙◌, Some, None, true, false, get_or, length, refl, ap, sym, arith}
 use Rattle.std.proofs.lemmas.Grind.{common_steps}
-use Rattle.page_cache.specs.Kept.{IsSound}
+use Rattle.page_cache.specs.Guide.{Guided}
+use Rattle.page_cache.specs.Held.{mark_of}
 use Rattle.page_cache.specs.Fields.{all_seen}
-use Rattle.page_cache.proofs.PageLaws.{keeps-bytes, view-bytes, seen-at}
+use Rattle.page_cache.specs.Cached.{is_loading}
+use Rattle.page_cache.proofs.PageLaws.{keeps-loaded, loading-some, view-loaded, seen-at}
+use Rattle.page_cache.proofs.KeptLaws.{kept-reserved}
+use Rattle.page_cache.specs.declared.page.State.{State}
 use Rattle.page_cache.proofs.cache.Cache.copy_in.Goals as goal
+
+pub release-requires : goal.release-requires
+release-requires g c =
+    let i = c.self.inside in
+    let places = all_seen g.S.TagStore.number i.places.items in
+    let loading : is_loading (get_or places c.args.at None) ≡ true = rw (← c.self.view_is) at c.requires.loading in
+    let below = kept-reserved i.limit i.spare places i.guide i.pool c.args.at (get_or places c.args.at None)
+    c.self.invariant refl (loading-some _ loading) in
+    rw loading at below
 
 pub invariant_of-self : goal.invariant_of-self
 invariant_of-self g c =
     let i = c.self.inside in
-    let here : get_or i.places.items c.args.at None ≡ Some c.unwrap-page.result.now = grind (arith, common_steps) in
     let number = g.S.TagStore.number in
-    let there = seen-at number i.places.items c.args.at c.unwrap-page.result.now here in
-    let sound : IfSome (get_or (all_seen number i.places.items) c.args.at None) IsSound =
-    c.self.invariant.sound c.args.at in
-    let sized = (rw there at sound).bytes in
-    keeps-bytes number i.limit i.spare i.places.items i.guide i.pool c.args.at c.unwrap-page.result.now
-    c.copy_from_slice.new.self
-    c.self.invariant here (ap length c.copy_from_slice.ensures.items ∙ c.requires.len ∙ sym sized)
+    let page = c.unwrap-page.result.now in
+    let here : get_or i.places.items c.args.at None ≡ Some page = grind (arith, common_steps) in
+    let loading : page.state.loading ≡ true =
+    sym (ap is_loading (seen-at number i.places.items c.args.at page here))
+    ∙ (rw (← c.self.view_is) at c.requires.loading) in
+    let state : State = record page.state { loading = false } in
+    let mark = c.of-mark.ensures ∙ ap (λ dirty. mark_of dirty state) c.is_some.ensures in
+    rw c.mark.ensures
+    (keeps-loaded number i.limit i.spare i.places.items i.guide i.pool c.args.at page c.copy_in.new.self c.of-mark.result
+    c.release.new.self c.copy_in.new.pool c.self.invariant here (ap length c.copy_in.ensures.value ∙ c.requires.len)
+    loading mark c.release.ensures c.copy_in.ensures.pool)
 
 pub returns : goal.returns
 returns g c =
     let i = c.self.inside in
-    let here : get_or i.places.items c.args.at None ≡ Some c.unwrap-page.result.now = grind (arith, common_steps) in
-    rw (← c.self.view_is)
-    (view-bytes g.S.TagStore.number i.limit i.spare i.places.items i.guide i.pool c.args.at c.unwrap-page.result.now
-    c.copy_from_slice.new.self
-    (λ old. c.args.bytes.now) here c.copy_from_slice.ensures.items)
+    let number = g.S.TagStore.number in
+    let page = c.unwrap-page.result.now in
+    let here : get_or i.places.items c.args.at None ≡ Some page = grind (arith, common_steps) in
+    let touches = ap (λ (v : Guided). v.touches) c.mark.ensures in
+    let bytes = c.copy_in.ensures.value in
+    rw (← c.self.view_is, ← bytes)
+    (view-loaded number i.limit i.spare i.places.items i.guide i.pool c.args.at c.mark.new.self page
+    c.copy_in.new.self here touches)

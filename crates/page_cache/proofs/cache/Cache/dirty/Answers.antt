@@ -1,19 +1,22 @@
-use Rattle.std.proofs.Common.{◌≡◌, ◌∙◌, ◌<◌, ◌≤◌, ◌+◌, Some, None, refl, ap, sym, arith}
+use Rattle.std.proofs.Common.{◌≡◌, ◌∙◌, ◌-◌, refl, ap, sym, arith}
 use Rattle.std.specs.Option.{option_map}
 use Rattle.cause_set.specs.Tags.{same, use_in, no_use}
 use Rattle.cause_set.proofs.TagLaws.{use_in-same, moved-as, moved-none}
 use Rattle.page_cache.specs.Held.{Held}
-use Rattle.page_cache.specs.Cached.{Cached, page_of, tag_in, held_in}
+use Rattle.page_cache.specs.Cached.{Cached, page_of, tag_in, is_loading}
+use Rattle.page_cache.specs.declared.page.State.{State}
+use Rattle.page_cache.specs.Changes.{one_if}
 use Rattle.page_cache.proofs.SlotLaws.{slot-free}
 use Rattle.page_cache.proofs.MoreLaws.{key-buf, key-number, key-there}
-use Rattle.page_cache.proofs.WriteLaws.{dirties-held, dirties-new, entered-some}
+use Rattle.page_cache.proofs.WriteLaws.{dirties-held, dirties-new}
 use Rattle.page_cache.proofs.cache.Cache.dirty.Goals as goal
 
 pub page-requires : goal.page-requires
 page-requires g c = c.in-Some.ensures.some.held
 
 pub change-old-requires : goal.change-old-requires
-change-old-requires g c = c.in-Some.ensures.some.held
+change-old-requires g c =
+    record { page = c.in-Some.ensures.some.held; loading = sym (ap is_loading c.page.ensures.page) }
 
 pub let_go-requires : goal.let_go-requires
 let_go-requires g c =
@@ -35,7 +38,7 @@ returns-in-Some-clause-places g c =
     let number = g.S.TagStore.number in
     let p : Held = record {
       key = page.key;
-      bytes = page.bytes.items;
+      bytes = page.bytes;
       tag = option_map number page.tag;
       state =
           page.state;
@@ -45,8 +48,7 @@ returns-in-Some-clause-places g c =
     c.change-old.ensures.rest
 
 pub returns-in-Some-clause-spare : goal.returns-in-Some-clause-spare
-returns-in-Some-clause-spare g c = let spent = ap (λ (v : Cached). v.spare) c.change-old.ensures.rest in
-    omega (arith, spent)
+returns-in-Some-clause-spare g c = ap (λ (v : Cached). v.spare) c.change-old.ensures.rest
 
 pub returns-in-Some-clause-moved : goal.returns-in-Some-clause-moved
 returns-in-Some-clause-moved g c =
@@ -61,41 +63,34 @@ returns-in-Some-clause-moved g c =
 pub unwrap-requires : goal.unwrap-requires
 unwrap-requires g c = rw c.of.ensures (key-there c.args.b c.requires.page)
 
-pub enter-at-requires-clause-absent : goal.enter-at-requires-clause-absent
-enter-at-requires-clause-absent g c =
+pub enter-requires-clause-absent : goal.enter-requires-clause-absent
+enter-requires-clause-absent g c =
     rw (key-buf c.args.b c.unwrap.result (sym c.of.ensures ∙ c.unwrap.ensures)) c.in_default.ensures.none
 
-pub enter-at-requires-clause-number : goal.enter-at-requires-clause-number
-enter-at-requires-clause-number g c = key-number c.args.b c.unwrap.result (sym c.of.ensures
+pub enter-requires-clause-number : goal.enter-requires-clause-number
+enter-requires-clause-number g c = key-number c.args.b c.unwrap.result (sym c.of.ensures
     ∙ c.unwrap.ensures) c.requires.page
 
-pub enter-at-requires-clause-free : goal.enter-at-requires-clause-free
-enter-at-requires-clause-free g c = rw c.in_default.ensures.none at c.requires.place
-
-pub clear-requires : goal.clear-requires
-clear-requires g c =
-    entered-some c.args.self.now c.enter-at.new.self c.unwrap.result (Some (g.S.TagStore.number c.args.tag))
-    c.new.result c.enter-at.result
-    c.enter-at.ensures
+pub enter-requires-clause-free : goal.enter-requires-clause-free
+enter-requires-clause-free g c = rw c.in_default.ensures.none at c.requires.place
 
 pub returns-clause-slot : goal.returns-clause-slot
 returns-clause-slot g c =
     rw c.in_default.ensures.none
-    (slot-free c.args.b c.args.self.now.places c.enter-at.result c.enter-at.ensures.within c.enter-at.ensures.empty
+    (slot-free c.args.b c.args.self.now.places c.enter.result c.enter.ensures.within c.enter.ensures.empty
     c.in_default.ensures.none)
 
 pub returns-clause-places : goal.returns-clause-places
 returns-clause-places g c =
-    dirties-new c.args.self.now c.enter-at.new.self c.clear.new.self c.args.b c.enter-at.result
+    dirties-new c.args.self.now c.enter.new.self c.args.b c.enter.result
     (g.S.TagStore.number c.args.tag) c.unwrap.result
-    c.new.result (sym c.of.ensures ∙ c.unwrap.ensures) c.in_default.ensures.none c.new.ensures c.enter-at.ensures
-    c.clear.ensures
+    c.new.result (sym c.of.ensures ∙ c.unwrap.ensures) c.in_default.ensures.none c.new.ensures c.enter.ensures
 
 pub returns-clause-spare : goal.returns-clause-spare
 returns-clause-spare g c =
-    let first = ap (λ (v : Cached). v.spare) c.enter-at.ensures.is in
-    let last = ap (λ (v : Cached). v.spare) c.clear.ensures in
-    omega (arith, first, last)
+    let less : c.enter.new.self.spare ≡ c.args.self.now.spare - 0 = ap (λ (v : Cached). v.spare) c.enter.ensures.is
+    ∙ ap (λ (s : State). c.args.self.now.spare - one_if s.loading) c.new.ensures in
+    omega (arith, less)
 
 pub returns-clause-moved : goal.returns-clause-moved
 returns-clause-moved g c = rw c.in_default.ensures.none (moved-none (g.S.TagStore.now c.args.tags.now))

@@ -1,4 +1,4 @@
-use Rattle.std.proofs.Common.{◌^◌, ◌<◌, ◌≡◌, ◌∙◌, arith}
+use Rattle.std.proofs.Common.{◌∙◌, arith}
 use Rattle.page_cache.specs.Fields.{all_seen}
 use Rattle.page_cache.proofs.FindLaws.{unsettled-count, unsettled-held}
 use Rattle.page_cache.proofs.cache.Cache.dirty_or_busy.Goals as goal

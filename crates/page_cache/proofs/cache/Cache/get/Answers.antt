@@ -1,6 +1,5 @@
-use Rattle.std.proofs.Common.{◌≡◌, None, Some, true, refl, ap, sym, ◌∙◌, slice_range, sum}
+use Rattle.std.proofs.Common.{ap}
 use Rattle.page_cache.specs.Cached.{Cached}
-use Rattle.page_cache.specs.Changes.{bytes_in}
 use Rattle.page_cache.specs.Steps.{IsPlaced}
 use Rattle.page_cache.proofs.CallLaws.{is-there, some-at, touches-alone}
 use Rattle.page_cache.proofs.cache.Cache.get.Goals as goal

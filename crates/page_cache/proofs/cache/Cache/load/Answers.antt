@@ -1,6 +1,4 @@
-use Rattle.std.proofs.Common.{◌≡◌, None, Some, true, refl, ap}
-use Rattle.std.specs.Option.{option_map}
-use Rattle.page_cache.specs.Held.{Held}
+use Rattle.std.proofs.Common.{◌≡◌, None, true}
 use Rattle.page_cache.specs.Cached.{is_loading}
 use Rattle.page_cache.specs.Steps.{IsPlaced}
 use Rattle.page_cache.proofs.CallLaws.{is-there, some-at}
@@ -12,61 +10,33 @@ unwrap-at-requires g c =
     is-there c.place_of.result _ c.place_of.ensures.none
     (λ none. let no : is_loading None ≡ true = rw none at c.requires.loading in absurd (cc))
 
-pub page-requires : goal.page-requires
-page-requires g c =
-    (some-at c.place_of.result c.unwrap-at.result (IsPlaced c.args.self.now.places c.args.b) c.unwrap-at.ensures
-    c.place_of.ensures.some).held
-
-pub restate-requires : goal.restate-requires
-restate-requires g c =
-    (some-at c.place_of.result c.unwrap-at.result (IsPlaced c.args.self.now.places c.args.b) c.unwrap-at.ensures
-    c.place_of.ensures.some).held
+pub copy_in-requires-clause-loading : goal.copy_in-requires-clause-loading
+copy_in-requires-clause-loading g c =
+    let placed =
+    some-at c.place_of.result c.unwrap-at.result (IsPlaced c.args.self.now.places c.args.b) c.unwrap-at.ensures
+    c.place_of.ensures.some in
+    rw placed.slot.page at c.requires.loading
 
 pub returns-clause-page : goal.returns-clause-page
 returns-clause-page g c =
-    let page = c.page.result.now in
-    let p : Held = record {
-      key = page.key;
-      bytes = page.bytes.items;
-      tag = option_map g.S.TagStore.number page.tag;
-      state = page.state;
-    } in
     let placed =
     some-at c.place_of.result c.unwrap-at.result (IsPlaced c.args.self.now.places c.args.b) c.unwrap-at.ensures
     c.place_of.ensures.some in
-    loaded-page c.args.self.now c.restate.new.self c.copy_in.new.self c.touch.new.self c.args.b c.unwrap-at.result p
-    c.args.bytes.now placed
-    c.page.ensures.page c.restate.ensures c.copy_in.ensures c.touch.ensures.rest
+    loaded-page c.args.self.now c.copy_in.new.self c.touch.new.self c.args.b c.unwrap-at.result
+    c.args.bytes.now placed c.copy_in.ensures c.touch.ensures.rest
 
 pub returns-clause-touched : goal.returns-clause-touched
 returns-clause-touched g c =
-    let page = c.page.result.now in
-    let p : Held = record {
-      key = page.key;
-      bytes = page.bytes.items;
-      tag = option_map g.S.TagStore.number page.tag;
-      state = page.state;
-    } in
     let placed =
     some-at c.place_of.result c.unwrap-at.result (IsPlaced c.args.self.now.places c.args.b) c.unwrap-at.ensures
     c.place_of.ensures.some in
-    loaded-touched c.args.self.now c.restate.new.self c.copy_in.new.self c.touch.new.self c.args.b c.unwrap-at.result p
-    c.args.bytes.now placed
-    c.page.ensures.page c.restate.ensures c.copy_in.ensures c.touch.ensures.rest c.touch.ensures.len
-    c.touch.ensures.touches
+    loaded-touched c.args.self.now c.copy_in.new.self c.touch.new.self c.args.b c.unwrap-at.result
+    c.args.bytes.now placed c.copy_in.ensures c.touch.ensures.rest c.touch.ensures.len c.touch.ensures.touches
 
 pub returns-clause-spare : goal.returns-clause-spare
 returns-clause-spare g c =
-    let page = c.page.result.now in
-    let p : Held = record {
-      key = page.key;
-      bytes = page.bytes.items;
-      tag = option_map g.S.TagStore.number page.tag;
-      state = page.state;
-    } in
     let placed =
     some-at c.place_of.result c.unwrap-at.result (IsPlaced c.args.self.now.places c.args.b) c.unwrap-at.ensures
     c.place_of.ensures.some in
-    loaded-spare c.args.self.now c.restate.new.self c.copy_in.new.self c.touch.new.self c.args.b c.unwrap-at.result p
-    c.args.bytes.now placed
-    c.page.ensures.page c.restate.ensures c.copy_in.ensures c.touch.ensures.rest
+    loaded-spare c.args.self.now c.copy_in.new.self c.touch.new.self c.args.b c.unwrap-at.result
+    c.args.bytes.now placed c.copy_in.ensures c.touch.ensures.rest

@@ -1,10 +1,9 @@
-use Rattle.std.proofs.Common.{◌≡◌, ◌≤◌, ◌<◌, ◌^◌, ◌∙◌, ap, sym, refl, List, map, Option, None, is_some, arith}
-use Rattle.cause_set.specs.Tags.{held, same}
+use Rattle.std.proofs.Common.{refl, Option, None, is_some, arith}
+use Rattle.cause_set.specs.Tags.{same}
 use Rattle.cause_set.proofs.TagLaws.{held-empty}
 use Rattle.page_cache.specs.Held.{Held, seen}
 use Rattle.page_cache.specs.Cached.{is_unsettled, tag_in}
-use Rattle.page_cache.specs.Fields.{all_seen}
-use Rattle.page_cache.proofs.ListLaws.{empty_places, map-replicate, empty-place, count-replicate}
+use Rattle.page_cache.proofs.ListLaws.{map-replicate, empty-place, count-replicate}
 use Rattle.page_cache.proofs.KeptLaws.{kept-new}
 use Rattle.page_cache.proofs.cache.Cache.new.Goals as goal
 

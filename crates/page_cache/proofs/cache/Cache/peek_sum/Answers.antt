@@ -1,4 +1,3 @@
-use Rattle.std.proofs.Common.{◌≡◌, None, Some}
 use Rattle.page_cache.specs.Steps.{IsPlaced}
 use Rattle.page_cache.proofs.CallLaws.{is-there, some-at}
 use Rattle.page_cache.proofs.cache.Cache.peek_sum.Goals as goal

@@ -1,4 +1,4 @@
-use Rattle.std.proofs.Common.{◌≡◌, sym}
+use Rattle.std.proofs.Common.{sym}
 use Rattle.page_cache.specs.Fields.{all_seen}
 use Rattle.page_cache.proofs.ListLaws.{if_none-as, if_some-as, none-anyway}
 use Rattle.page_cache.proofs.FreeLaws.{sound-data}

@@ -1,4 +1,4 @@
-use Rattle.std.proofs.Common.{◌≡◌, ◌∙◌, Some, None, is_some, get_or, length, refl, ap, sym, arith}
+use Rattle.std.proofs.Common.{◌≡◌, ◌∙◌, Some, None, get_or, ap, arith}
 use Rattle.std.proofs.lemmas.Grind.{common_steps}
 use Rattle.page_cache.specs.Guide.{Guided}
 use Rattle.page_cache.specs.Held.{mark_of}
@@ -13,7 +13,7 @@ invariant_of-self g c =
     rw c.mark.ensures
     (keeps-changed g.S.TagStore.number i.limit i.spare i.places.items i.guide i.pool c.args.at c.unwrap-page.result.now
     c.unwrap-page.result.now.tag
-    c.args.state c.of-mark.result c.self.invariant here mark)
+    c.args.state c.of-mark.result c.self.invariant here mark (rw (← c.self.view_is) at c.requires.loading))
 
 pub returns : goal.returns
 returns g c =

@@ -1,11 +1,10 @@
-use Rattle.std.proofs.Common.{◌≡◌, ◌∙◌, ◌+◌, ◌*◌, ◌<◌, ◌≤◌, ◌++◌, Some, None, true, get_or, length, length-append, refl, ap, sym, arith}
-use Rattle.std.specs.Prelude.{vec_len, vec_capacity}
+use Rattle.std.proofs.Common.{◌≡◌, ◌∙◌, ◌+◌, ◌++◌, length, length-append, ap, sym, arith}
 use Rattle.split_types.specs.declared.buf.Buf.TheVariants.{Page}
 use Rattle.page_cache.specs.Cached.{Cached, page_of, is_ready}
 use Rattle.page_cache.specs.Changes.{IsReady, bytes_in}
 use Rattle.page_cache.specs.Steps.{IsPlaced}
 use Rattle.page_cache.proofs.CallLaws.{is-there, some-at, tag-covered}
-use Rattle.page_cache.proofs.TakeLaws.{takes-still, takes-more, takes-all, takes-causes, bytes-more, bytes_of, not-held, ready-as, extended}
+use Rattle.page_cache.proofs.TakeLaws.{takes-still, takes-more, takes-all, takes-causes, bytes-more, bytes_of, not-held, ready-as}
 use Rattle.page_cache.proofs.cache.Cache.take_out.Goals as goal
 
 pub whole_tag-requires-clause-ready : goal.whole_tag-requires-clause-ready
@@ -49,26 +48,19 @@ loop-k-preserved g c =
     let placed = some-at c.place_of.result c.unwrap-at.result (IsPlaced cur.places b) c.unwrap-at.ensures
     c.place_of.ensures.some in
     let page = c.page.result.now in
-    let here : bytes_in (page_of v2 b) ≡ page.bytes.items =
+    let here : bytes_in (page_of v2 b) ≡ page.bytes =
     sym (ap bytes_in still) ∙ ap bytes_in placed.slot.page ∙ ap bytes_in c.page.ensures.page in
-    let room : vec_len c.loop-k.bytes + length c.deref.result.now ≤ vec_capacity c.loop-k.bytes =
-    let some = c.loop-k-test.true in
-    let sized : length c.deref.result.now ≡ 4096 = ap length c.deref.ensures.value ∙ c.page.ensures.len in
-    omega (arith, c.loop-k.invariant.len, c.loop-k.invariant.room, sized, c.loop-k.bytes.ok.0) in
-    let done = c.extend_from_slice.ensures.succeeds room in
-    let items : c.extend_from_slice.new.self.items ≡ c.loop-k.bytes.items ++ page.bytes.items =
-    extended c.extend_from_slice.result _ _ _ c.extend_from_slice.ensures.items done
-    ∙ ap (λ more. c.loop-k.bytes.items ++ more) c.deref.ensures.value in
+    let items : c.append_to.new.run.items ≡ c.loop-k.bytes.items ++ page.bytes = c.append_to.ensures.items in
     record {
       takes = takes-more (store c.whole_tag.new.tags) (store c.loop-k.tags) (store c.take_page.new.tags) v2 cur
           c.take_page.new.self c.args.s
           c.args.page k c.unwrap-at.result takes ready placed c.take_page.ensures.page c.take_page.ensures.moved;
-      bytes = items ∙ ap (λ first. first ++ page.bytes.items) c.loop-k.invariant.bytes
+      bytes = items ∙ ap (λ first. first ++ page.bytes) c.loop-k.invariant.bytes
           ∙ ap (λ last. bytes_of v2 c.args.s c.args.page k ++ last) (sym here)
           ∙ sym (bytes-more v2 c.args.s c.args.page k);
-      len = ap length items ∙ (length-append c.loop-k.bytes.items page.bytes.items
+      len = ap length items ∙ (length-append c.loop-k.bytes.items page.bytes
           ∙ omega (arith, c.loop-k.invariant.len, c.page.ensures.len));
-      room = omega (arith, c.loop-k.invariant.room, c.extend_from_slice.ensures.capacity);
+      room = omega (arith, c.loop-k.invariant.room, c.append_to.ensures.capacity);
       tags_spare = omega (arith, c.loop-k.invariant.tags_spare, c.take_page.ensures.spare);
     }
 

@@ -1,9 +1,8 @@
-use Rattle.std.proofs.Common.{◌≡◌, ◌∙◌, Option, Some, None, true, refl, ap, sym, set, get_or}
+use Rattle.std.proofs.Common.{◌≡◌, ◌∙◌, None, true, refl, ap, set, get_or}
 use Rattle.std.specs.Option.{option_map}
 use Rattle.cause_set.specs.Tags.{same, use_in, no_use}
 use Rattle.cause_set.proofs.TagLaws.{use_in-same, moved-as}
 use Rattle.page_cache.specs.declared.page.State.{State}
-use Rattle.page_cache.specs.Held.{Held}
 use Rattle.page_cache.specs.Cached.{Cached, tag_in}
 use Rattle.page_cache.specs.Steps.{changed}
 use Rattle.page_cache.specs.Changes.{taken}

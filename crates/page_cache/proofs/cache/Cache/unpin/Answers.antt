@@ -1,8 +1,8 @@
-use Rattle.std.proofs.Common.{◌≡◌, ◌∙◌, ◌<◌, Some, None, true, get_or, set, length, refl, ap, sym, arith}
+use Rattle.std.proofs.Common.{◌≡◌, ◌∙◌, ◌<◌, Some, None, true, get_or, set, length, ap, sym}
 use Rattle.std.specs.Option.{option_map}
 use Rattle.page_cache.specs.Held.{Held}
 use Rattle.page_cache.specs.Fields.{all_seen}
-use Rattle.page_cache.specs.Cached.{Cached}
+use Rattle.page_cache.specs.Cached.{Cached, is_loading}
 use Rattle.page_cache.specs.Steps.{with_state}
 use Rattle.page_cache.proofs.SlotLaws.{some-inside}
 use Rattle.page_cache.proofs.EachLaws.{all_unpinned, is_pinning, unpins, unpins-tags, unpinned-all, none-pinned, pinned-found, pinning-some, unpin-more, unpin-fewer}
@@ -26,7 +26,10 @@ restate-requires g c =
     let pinned = pinned-found c.args.by (all_seen number i.places.items) i.guide.pins c.in-Some.at
     c.self.invariant.guided.pins c.in-Some.ensures.found in
     let now_pinned : is_pinning c.args.by (get_or c.loop-at.self.places c.in-Some.at None) ≡ true = rw seen at pinned in
-    pinning-some c.args.by (get_or c.loop-at.self.places c.in-Some.at None) now_pinned
+    record {
+      page = pinning-some c.args.by (get_or c.loop-at.self.places c.in-Some.at None) now_pinned;
+      loading = sym (ap is_loading c.page.ensures.page);
+    }
 
 pub loop-at-preserved : goal.loop-at-preserved
 loop-at-preserved g c =
@@ -39,7 +42,7 @@ loop-at-preserved g c =
     let page = c.page.result.now in
     let p : Held = record {
       key = page.key;
-      bytes = page.bytes.items;
+      bytes = page.bytes;
       tag = option_map number page.tag;
       state =
           page.state;
@@ -73,7 +76,7 @@ loop-at-smaller g c =
     let page = c.page.result.now in
     let p : Held = record {
       key = page.key;
-      bytes = page.bytes.items;
+      bytes = page.bytes;
       tag = option_map number page.tag;
       state =
           page.state;

@@ -1,4 +1,4 @@
-use Rattle.std.proofs.Common.{◌≡◌, ◌∙◌, Some, None, get_or, refl, ap, sym}
+use Rattle.std.proofs.Common.{◌≡◌, ◌∙◌, Some, None, get_or, refl, ap}
 use Rattle.std.specs.Option.{option_map}
 use Rattle.std.specs.List.{position_or_len}
 use Rattle.page_cache.specs.Held.{Held}
@@ -32,7 +32,7 @@ returns-clause-victim g c =
     let page = c.page.result.now in
     let p : Held = record {
       key = page.key;
-      bytes = page.bytes.items;
+      bytes = page.bytes;
       tag = option_map number page.tag;
       state =
           page.state;

@@ -1,4 +1,4 @@
-use Rattle.std.proofs.Common.{◌≡◌, ◌<◌, ◌≤◌, ◌+◌, arith}
+use Rattle.std.proofs.Common.{◌+◌, arith}
 use Rattle.split_types.specs.declared.buf.Buf.TheVariants.{Page}
 use Rattle.page_cache.proofs.TakeLaws.{ready-first, ready-numbers, tag-live, whole-start, whole-more}
 use Rattle.page_cache.proofs.cache.Cache.whole_tag.Goals as goal

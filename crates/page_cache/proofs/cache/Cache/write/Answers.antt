@@ -1,15 +1,13 @@
-use Rattle.std.proofs.Common.{◌≡◌, ◌∙◌, ◌<◌, ◌≤◌, ◌+◌, ◌∷◌, [], Option, Some, None, IsSome, get_or, set, length, refl, ap, sym, arith, length-set, get_or-set_same}
+use Rattle.std.proofs.Common.{◌≡◌, ◌∙◌, ◌-◌, Some, None, length, refl, ap, arith, length-set, get_or-set_same}
 use Rattle.std.specs.List.{position_or_len}
-use Rattle.split_types.specs.Sets.{union_of}
-use Rattle.cause_set.specs.Tags.{Tags, Moved, same, use_in, held, no_use}
 use Rattle.cause_set.proofs.TagLaws.{moved-none}
 use Rattle.page_cache.specs.Held.{state_in}
-use Rattle.page_cache.specs.Cached.{Cached, is_page, page_of, tag_in, tags_in, causes_of}
+use Rattle.page_cache.specs.Cached.{Cached, is_page, page_of, tags_in}
 use Rattle.page_cache.specs.Changes.{page_as, bytes_in}
 use Rattle.page_cache.proofs.ListLaws.{err-anyway}
 use Rattle.page_cache.proofs.StoreLaws.{still-held}
 use Rattle.page_cache.proofs.CallLaws.{as-some, tag-covered, writes-all, writes-moved}
-use Rattle.page_cache.proofs.WriteLaws.{written-slot, written-places, written-limit, written-len, written-touched, written-spare}
+use Rattle.page_cache.proofs.WriteLaws.{written-slot, written-places, written-limit, written-len, written-touched}
 use Rattle.page_cache.proofs.cache.Cache.write.Goals as goal
 
 pub returns-in_err-room-clause-moved : goal.returns-in_err-room-clause-moved
@@ -118,6 +116,6 @@ returns-clause-moved g c =
 
 pub returns-clause-spare : goal.returns-clause-spare
 returns-clause-spare g c =
-    let last : c.touch.new.self.spare ≡ c.dirty-at.new.self.spare =
+    let last : c.touch.new.self.spare ≡ c.dirty-at.new.self.spare - 1 =
     ap (λ (v : Cached). v.spare) c.touch.ensures.rest ∙ ap (λ (v : Cached). v.spare) c.fill.ensures in
     omega (arith, last, c.dirty-at.ensures.spare, c.in_ok-room.ensures.spare)

@@ -1,7 +1,7 @@
-use Rattle.std.proofs.Common.{◌≡◌, None, Some, true, refl, ap, sym, ◌∙◌, set, get_or}
+use Rattle.std.proofs.Common.{◌≡◌, None, true, ap, sym}
 use Rattle.std.specs.Option.{option_map}
 use Rattle.page_cache.specs.Held.{Held}
-use Rattle.page_cache.specs.Cached.{Cached, is_busy}
+use Rattle.page_cache.specs.Cached.{Cached, is_busy, is_loading}
 use Rattle.page_cache.specs.Steps.{IsPlaced}
 use Rattle.page_cache.proofs.CallLaws.{is-there, some-at}
 use Rattle.page_cache.proofs.MoreLaws.{written-page, written-touches}
@@ -19,15 +19,19 @@ page-requires g c =
 
 pub restate-requires : goal.restate-requires
 restate-requires g c =
-    (some-at c.place_of.result c.unwrap-at.result (IsPlaced c.args.self.now.places c.args.b) c.unwrap-at.ensures
-    c.place_of.ensures.some).held
+    record {
+      page = (some-at c.place_of.result c.unwrap-at.result (IsPlaced c.args.self.now.places c.args.b)
+          c.unwrap-at.ensures
+          c.place_of.ensures.some).held;
+      loading = sym (ap is_loading c.page.ensures.page);
+    }
 
 pub returns-clause-page : goal.returns-clause-page
 returns-clause-page g c =
     let page = c.page.result.now in
     let p : Held = record {
       key = page.key;
-      bytes = page.bytes.items;
+      bytes = page.bytes;
       tag = option_map g.S.TagStore.number page.tag;
       state = page.state;
     } in
@@ -42,7 +46,7 @@ returns-clause-touches g c =
     let page = c.page.result.now in
     let p : Held = record {
       key = page.key;
-      bytes = page.bytes.items;
+      bytes = page.bytes;
       tag = option_map g.S.TagStore.number page.tag;
       state = page.state;
     } in

@@ -1,4 +1,4 @@
-use Rattle.std.proofs.Common.{◌≡◌, ◌≢◌, ◌∙◌, Some, None, get_or, arith}
+use Rattle.std.proofs.Common.{◌≡◌, ◌≢◌, Some, None, get_or, arith}
 use Rattle.std.proofs.lemmas.Grind.{common_steps}
 use Rattle.page_cache.specs.Pins.{chain_of}
 use Rattle.page_cache.proofs.PinLaws.{IsSought, sought-start, sought-more}

@@ -1,4 +1,4 @@
-use Rattle.std.proofs.Common.{◌≡◌, ◌<◌, length, set, get_or, None, ap, sym, ◌∙◌, length-set, get_or-set_same}
+use Rattle.std.proofs.Common.{None, ap, ◌∙◌, length-set, get_or-set_same}
 use Rattle.std.specs.Option.{option_map}
 use Rattle.std.proofs.lemmas.List.{set-set}
 use Rattle.fixed_places.specs.Chains.{Chained}
