@@ -1,5 +1,5 @@
 -- The first block of bytes that are one block, and blocks with one byte at each place.
-use Rattle.std.proofs.Common.{◌≡◌, ℕ, ◌*◌, ◌≤◌, List, length, take, drop, replicate, arith}
+use Rattle.std.proofs.Common.{◌≡◌, ℕ, List, length, arith}
 use Rattle.std.proofs.lemmas.List.{length-replicate, take_all}
 use Rattle.sim_disk.specs.Bytes.{filled, block_of}
 
@@ -10,6 +10,3 @@ first_block bytes whole = take_all 4096 bytes (omega (arith, whole))
 pub length-filled : (byte : ℕ) → length (filled byte) ≡ 4096
 unfolding filled
 length-filled byte = length-replicate 4096 byte
-
-pub first_of_filled : (byte : ℕ) → block_of (filled byte) 0 ≡ filled byte
-first_of_filled byte = first_block (filled byte) (length-filled byte)

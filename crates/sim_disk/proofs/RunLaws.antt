@@ -1,19 +1,17 @@
 -- What the blocks of a disk hold when one of them goes over to another run.
-use Rattle.std.proofs.Common.{◌≡◌, ℕ, suc, ◌+◌, ◌*◌, ◌^◌, ◌<◌, ◌≤◌, ◌==◌, List, [], ◌∷◌, length, map, get_or, set, replicate, cond, eqb, Bool, true, false, Some, None, Option, All, refl, sym, ap, ◌∙◌, subst, inl, inr, arith, count_by}
+use Rattle.std.proofs.Common.{◌≡◌, ℕ, suc, ◌+◌, ◌*◌, ◌<◌, ◌≤◌, List, [], ◌∷◌, length, map, get_or, set, replicate, cond, eq-eqb, true, Some, None, Option, All, refl, sym, ap, ◌∙◌, subst, inl, inr, arith}
 use Rattle.std.proofs.lemmas.Bool.{cases_eq, cases_lt}
-use Rattle.std.proofs.lemmas.Bool.Decides.{nat_tests}
-use Rattle.std.proofs.lemmas.Grind.{common_steps}
-use Rattle.std.proofs.lemmas.List.{length-set, length-replicate, map-set, get_or-map, get_or-set_same, get_or-set_other, get_or_past}
+use Rattle.std.proofs.lemmas.List.{length-set, map-set, get_or-map, get_or-set_same, get_or-set_other, get_or_past}
 use Rattle.std.proofs.lemmas.List.Elements.{All-set, All-replicate, All-map, AllZip-get_or, length_all_zip}
 use Rattle.std.proofs.lemmas.List.Sums.{sum_by-set, count_by_more_yes, sum_by-take-le}
-use Rattle.std.proofs.lemmas.List.Folds.{sum_by-replicate}
 use Rattle.slab.specs.Slab.{Slab, get, Updates, IsSlotClone, IsSlabClone}
 use Rattle.sim_disk.specs.declared.runs.Place.{Place}
+use Rattle.sim_disk.specs.declared.runs.Place.TheVariants.{Filled, Within}
 use Rattle.sim_disk.specs.declared.runs.Run.{Run}
 use Rattle.sim_disk.specs.Bytes.{block_of, block_at, filled}
 use Rattle.sim_disk.specs.Sheet.{Overwrites}
-use Rattle.sim_disk.proofs.Filled.{first_of_filled}
-use Rattle.sim_disk.specs.Runs.{bytes_in, uses_in, content, standing, AreKept}
+use Rattle.sim_disk.specs.Shared.{IsMade}
+use Rattle.sim_disk.specs.Runs.{bytes_in, uses_in, content, is_in, standing, Fits, AreKept, IsBacked}
 
 -- two functions that agree at each element of a list
 pub map_agree : {X Y : Type 0} (f g : X → Y) (xs : List X)
@@ -23,52 +21,54 @@ map_agree f g (x ∷ xs) same = rw (same 0 x (omega arith))
     (ap (λ l. g x ∷ l) (map_agree f g xs (λ j d within. same (suc j) d (omega arith))))
 
 -- a run in which a block stands is counted
-pub standing_some : (places : List Place) (j : ℕ) (d : Place) → j < length places
-    → 0 < standing places (get_or places j d).run
-standing_some places j d within =
-    let k = (get_or places j d).run in
-    let here : eqb (get_or places j d).run k ≡ true = grind (arith, nat_tests) in
-    omega (
-      arith,
-      count_by_more_yes (λ q. q.run == k) places j d within here,
-      sum_by-take-le (λ q. cond (q.run == k) 1 0) places (j + 1),
-    )
+pub standing_some : (places : List Place) (j k : ℕ) (d : Place) → j < length places
+    → is_in k (get_or places j d) ≡ true → 0 < standing places k
+standing_some places j k d within here = omega (
+  arith,
+  count_by_more_yes (is_in k) places j d within here,
+  sum_by-take-le (λ q. cond (is_in k q) 1 0) places (j + 1),
+)
+
+-- what a place holds, and whether it fits, hangs on the bytes of its run alone
+pub same_content : (runs new : Slab Run) (p : Place)
+    → ((k : ℕ) → is_in k p ≡ true → bytes_in (get new k) ≡ bytes_in (get runs k)) → content new p ≡ content runs p
+same_content runs new (Filled byte) same = refl
+same_content runs new (Within run at) same = ap (λ bytes. block_of bytes at) (same run (eq-eqb run run refl))
+
+pub same_fit : (runs new : Slab Run) (p : Place)
+    → ((k : ℕ) → is_in k p ≡ true → bytes_in (get new k) ≡ bytes_in (get runs k)) → Fits runs p → Fits new p
+same_fit runs new (Filled byte) same fits = tt
+same_fit runs new (Within run at) same fits =
+    subst (λ bytes. 4096 * (at + 1) ≤ length bytes) (sym (same run (eq-eqb run run refl))) fits
 
 module _ (places : List Place) (runs new : Slab Run) (b : ℕ) (p old : Place) (kept : AreKept places runs)
     (inside : b < length places) (was : get_or places b old ≡ old)
-    (uses : (k : ℕ) → uses_in (get new k) + cond (eqb old.run k) 1 0 ≡ uses_in (get runs k) + cond (eqb p.run k) 1 0)
+    (uses : (k : ℕ) → uses_in (get new k) + cond (is_in k old) 1 0 ≡ uses_in (get runs k) + cond (is_in k p) 1 0)
     (bytes : (k : ℕ) → 0 < uses_in (get new k) → bytes_in (get new k) ≡ bytes_in (get runs k))
-    (fits : 4096 * (p.at + 1) ≤ length (bytes_in (get runs p.run))) where
+    (fits : Fits runs p) where
   counted : (k : ℕ) → uses_in (get new k) ≡ standing (set places b p) k
   counted k = omega (
     arith,
     uses k,
     kept.counted k,
-    sum_by-set (λ q. cond (q.run == k) 1 0) places b p old inside,
-    ap {B = ℕ} (λ q. cond (eqb q.run k) 1 0) was,
+    sum_by-set (λ q. cond (is_in k q) 1 0) places b p old inside,
+    ap {B = ℕ} (λ q. cond (is_in k q) 1 0) was,
   )
 
   -- the bytes of runs in which blocks stand stay
-  same_bytes : (j : ℕ) (d : Place) → j < length places
-      → bytes_in (get new (get_or (set places b p) j d).run) ≡ bytes_in (get runs (get_or (set places b p) j d).run)
-  same_bytes j d within =
+  same_bytes : (j : ℕ) (d : Place) → j < length places → (k : ℕ) → is_in k (get_or (set places b p) j d) ≡ true
+      → bytes_in (get new k) ≡ bytes_in (get runs k)
+  same_bytes j d within k here =
       let moved = set places b p in
-      bytes _ (omega (
-        arith,
-        counted (get_or moved j d).run,
-        standing_some moved j d (omega (arith, length-set places b p)),
-      ))
+      bytes k (omega (arith, counted k, standing_some moved j k d (omega (arith, length-set places b p)) here))
 
   -- the blocks and their runs are kept
   pub settled_kept : AreKept (set places b p) new
   settled_kept = record {
     counted = counted;
-    within = λ j d within.
-        let q = get_or (set places b p) j d in
-        let fit : 4096 * (q.at + 1) ≤ length (bytes_in (get runs q.run)) =
-        All-set (λ x. 4096 * (x.at + 1) ≤ length (bytes_in (get runs x.run)))
-        places b p fits kept.within j d within in
-        subst (λ x. 4096 * (q.at + 1) ≤ length x) (sym (same_bytes j d (omega (arith, length-set places b p)))) fit;
+    within = λ j d within. same_fit runs new (get_or (set places b p) j d)
+        (same_bytes j d (omega (arith, length-set places b p)))
+        (All-set (Fits runs) places b p fits kept.within j d within);
     few = omega (arith, kept.few, length-set places b p);
   }
 
@@ -76,15 +76,14 @@ module _ (places : List Place) (runs new : Slab Run) (b : ℕ) (p old : Place) (
   pub settled_blocks : map (content new) (set places b p) ≡ set (map (content runs) places) b (content runs p)
   settled_blocks =
       map_agree (content new) (content runs) (set places b p)
-      (λ j d within. ap (λ x. block_of x (get_or (set places b p) j d).at)
+      (λ j d within. same_content runs new (get_or (set places b p) j d)
       (same_bytes j d (omega (arith, length-set places b p))))
       ∙ map-set (content runs) places b p
 
   -- the run in which it stands now has the same bytes
-  pub settled_run : bytes_in (get new p.run) ≡ bytes_in (get runs p.run)
-  settled_run =
-      let here : get_or (set places b p) b old ≡ p = get_or-set_same places b p old inside in
-      subst (λ q. bytes_in (get new q.run) ≡ bytes_in (get runs q.run)) here (same_bytes b old inside)
+  pub settled_run : (k : ℕ) → is_in k p ≡ true → bytes_in (get new k) ≡ bytes_in (get runs k)
+  settled_run k here =
+      same_bytes b old inside k (ap (is_in k) (get_or-set_same places b p old inside) ∙ here)
 
 -- a run that comes in, in which no block stands yet
 module _ (places : List Place) (runs new : Slab Run) (key : ℕ) (run : Run) (kept : AreKept places runs)
@@ -96,58 +95,41 @@ module _ (places : List Place) (runs new : Slab Run) (key : ℕ) (run : Run) (ke
   ]
 
   -- blocks stand in other runs
-  elsewhere : (j : ℕ) (d : Place) → j < length places
-      → get new (get_or places j d).run ≡ get runs (get_or places j d).run
-  elsewhere j d within =
-      let k = (get_or places j d).run in
-      elim (cases_eq k key) [
-        | inl here ↦ absurd (omega (
-          arith,
-          kept.counted k,
-          standing_some places j d within,
-          ap uses_in (ap (get runs) here ∙ vacant),
-        ))
-        | inr other ↦ updates.others k other
-      ]
+  elsewhere : (j : ℕ) (d : Place) → j < length places → (k : ℕ) → is_in k (get_or places j d) ≡ true
+      → bytes_in (get new k) ≡ bytes_in (get runs k)
+  elsewhere j d within k in_it = elim (cases_eq k key) [
+    | inl here ↦ absurd (omega (
+      arith,
+      kept.counted k,
+      standing_some places j k d within in_it,
+      ap uses_in (ap (get runs) here ∙ vacant),
+    ))
+    | inr other ↦ ap bytes_in (updates.others k other)
+  ]
 
   pub inserted_kept : AreKept places new
   inserted_kept = record {
     counted = λ k. same_run k ∙ kept.counted k;
-    within = λ j d within. rw (elsewhere j d within) (kept.within j d within);
+    within = λ j d within. same_fit runs new (get_or places j d) (elsewhere j d within) (kept.within j d within);
     few = kept.few;
   }
 
   pub inserted_blocks : map (content new) places ≡ map (content runs) places
   inserted_blocks = map_agree (content new) (content runs) places
-      (λ j d within. ap (λ r. block_of (bytes_in r) (get_or places j d).at) (elsewhere j d within))
+      (λ j d within. same_content runs new (get_or places j d) (elsewhere j d within))
 
--- the block of a number stands where its place says
-pub block_at-content : (places : List Place) (runs : Slab Run) (b : ℕ) (p : Place) (run : Run) → b < length places
-    → p ≡ get_or places b p → get runs p.run ≡ Some run
-    → block_at (map (content runs) places) b ≡ block_of run.bytes.items p.at
-block_at-content places runs b p run within is found =
+-- the block of a number holds what its place holds
+pub block_at-content : (places : List Place) (runs : Slab Run) (b : ℕ) (p : Place) → b < length places
+    → p ≡ get_or places b p → block_at (map (content runs) places) b ≡ content runs p
+block_at-content places runs b p within is =
     get_or-map (content runs) places b p [] within ∙ ap (content runs) (sym is)
-    ∙ ap (λ r. block_of (bytes_in r) p.at) found
 
--- all blocks stand in the first block of one run
-pub new_kept : (n : ℕ) (runs : Slab Run) (p : Place) → p.at ≡ 0 → n < 2 ^ 32
-    → ((k : ℕ) → uses_in (get runs k) ≡ cond (eqb p.run k) n 0) → length (bytes_in (get runs p.run)) ≡ 4096
-    → AreKept (replicate n p) runs
-new_kept n runs p front few uses long = record {
-  counted = λ k. uses k ∙ all_or_none k (eqb p.run k) ∙ sym (sum_by-replicate (λ q. cond (q.run == k) 1 0) n p);
-  within = All-replicate (λ q. 4096 * (q.at + 1) ≤ length (bytes_in (get runs q.run))) n p (omega (arith, long));
-  few = omega (arith, length-replicate n p);
-}
-  where
-    all_or_none : (k : ℕ) (here : Bool) → cond here n 0 ≡ n * cond here 1 0
-    all_or_none k true = omega arith
-    all_or_none k false = omega arith
-
-pub new_blocks : (n byte : ℕ) (runs : Slab Run) (p : Place) → p.at ≡ 0 → bytes_in (get runs p.run) ≡ filled byte
-    → All (λ bytes. bytes ≡ filled byte) (map (content runs) (replicate n p))
-new_blocks n byte runs p front holds =
-    All-map (λ bytes. bytes ≡ filled byte) (content runs) (replicate n p)
-    (All-replicate (λ q. content runs q ≡ filled byte) n p (rw (front, holds) (first_of_filled byte)))
+-- all blocks are the shared block of one byte
+pub new_blocks : (n byte : ℕ) (runs : Slab Run)
+    → All (λ bytes. bytes ≡ filled byte) (map (content runs) (replicate n (Filled byte)))
+new_blocks n byte runs =
+    All-map (λ bytes. bytes ≡ filled byte) (content runs) (replicate n (Filled byte))
+    (All-replicate (λ q. content runs q ≡ filled byte) n (Filled byte) refl)
 
 -- one block more
 pub overwrites_more : (old new : List (List ℕ)) (first i : ℕ) (bytes : ℕ → List ℕ) → Overwrites old new first i bytes
@@ -206,10 +188,19 @@ module _ (places : List Place) (runs copy : Slab Run) (same : (k : ℕ)
   pub copied_kept : AreKept places runs → AreKept places copy
   copied_kept kept = record {
     counted = λ k. (same k).1 ∙ kept.counted k;
-    within = λ j d within. rw (same (get_or places j d).run).0 (kept.within j d within);
+    within = λ j d within. same_fit runs copy (get_or places j d) (λ k here. (same k).0) (kept.within j d within);
     few = kept.few;
   }
 
   pub copied_blocks : map (content copy) places ≡ map (content runs) places
   copied_blocks = map_agree (content copy) (content runs) places
-      (λ j d within. ap (λ bytes. block_of bytes (get_or places j d).at) (same (get_or places j d).run).0)
+      (λ j d within. same_content runs copy (get_or places j d) (λ k here. (same k).0))
+
+-- more blocks may be made
+pub backed_more : (places : List Place) (shared more : List (List ℕ))
+    → ((byte : ℕ) → IsMade shared byte → IsMade more byte) → All (IsBacked shared) places → All (IsBacked more) places
+backed_more places shared more still backed = λ j d within. one (get_or places j d) (backed j d within)
+  where
+    one : (p : Place) → IsBacked shared p → IsBacked more p
+    one (Filled byte) made = still byte made
+    one (Within run at) made = tt

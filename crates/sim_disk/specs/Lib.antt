@@ -2,5 +2,6 @@ pub mod Bytes
 pub mod Sheet
 pub mod Medium
 pub mod Crash
+pub mod Shared
 pub mod Runs
 pub mod Fields

@@ -1,11 +1,10 @@
 //! What the blocks of a disk hold.
-ghost use Rattle.std.specs.Prelude.{◌≡◌, ℕ, ◌+◌, ◌*◌, ◌^◌, ◌<◌, ◌≤◌, ◌==◌, if◌then◌else◌, length, vec_len, All, IfOk, OnOk};
-ghost use Rattle.slab.specs.Slab.{get, slab_len};
+ghost use Rattle.std.specs.Prelude.{◌≡◌, ℕ, ◌+◌, ◌*◌, ◌<◌, ◌≤◌, true, false, length, All, IfOk, OnOk, OnErr};
 ghost use Rattle.sim_disk.specs.Bytes.{filled, block_of, block_at};
-ghost use Rattle.sim_disk.specs.Runs.{bytes_in, uses_in};
 ghost use Rattle.sim_disk.specs.Sheet.{Overwrites};
 
 use crate::runs::{Place, Run, settle};
+use crate::shared::Shared;
 use slab::Slab;
 use std::alloc::{AllocError, Global};
 use std::marker::Model;
@@ -13,11 +12,13 @@ use std::marker::Model;
 /// How many bytes a block has.
 pub(crate) const BLOCK: usize = 4096;
 
-/// The blocks of a disk. Each stands in a run, and a run leaves with the last block that stands in it.
+/// The blocks of a disk. Each stands in a run, which leaves with the last block that stands in it, or is one of
+/// the blocks that all blocks share that have one byte at each place.
 #[derive(Drop)]
 pub(crate) struct Blocks {
     places: Vec<Place>,
     runs: Slab<Run>,
+    shared: Shared,
 }
 
 impl Model for Blocks {
@@ -27,14 +28,14 @@ impl Model for Blocks {
 
     ghost use Rattle.std.specs.Prelude.{map, ◌-◌};
     ghost use Rattle.slab.specs.Slab.{slab_len};
-    ghost use Rattle.sim_disk.specs.Runs.{content, AreKept};
+    ghost use Rattle.sim_disk.specs.Runs.{content, AreHeld};
 
     ghost view = { λ b. record {
       blocks = map (content b.runs) b.places.items;
       room = b.runs.capacity - slab_len b.runs;
     } };
 
-    ghost invariant = { λ b. AreKept b.places.items b.runs };
+    ghost invariant = { λ b. AreHeld b.places.items b.runs b.shared };
 }
 
 /// One block with this byte at each place.
@@ -44,28 +45,20 @@ pub(crate) fn filled_block(alloc: Global, byte: u8) -> Result<Vec<u8>, AllocErro
     vec![in alloc; byte; BLOCK]
 }
 
-/// A slab of one run, in which `uses` blocks stand, and its key.
-fn one_run(alloc: Global, bytes: Vec<u8>, uses: u32) -> Result<(Slab<Run>, usize), AllocError>
-    ensures uses { IfOk result (λ r. (k : ℕ) → uses_in (get r.0 k) ≡ (if r.1 == k then uses else 0)) }
-    ensures bytes { IfOk result (λ r. bytes_in (get r.0 r.1) ≡ bytes.items) }
-{
-    let mut runs = Slab::new(alloc);
-    let run = runs.insert(Run {
-        bytes,
-        uses: u64::from(uses),
-    })?;
-    Ok((runs, run))
-}
-
 impl Blocks {
     /// `n` blocks of zeros, which share one.
     pub(crate) fn new(alloc: Global, n: u32) -> Result<Blocks, AllocError>
         ensures size { IfOk result (λ b. length b.blocks ≡ n) }
         ensures zeros { IfOk result (λ b. All (λ bytes. bytes ≡ filled 0) b.blocks) }
     {
-        let (runs, run) = one_run(alloc, filled_block(alloc, 0)?, n)?;
-        let places = vec![in alloc; Place { run, at: 0 }; n as usize]?;
-        Ok(Blocks { places, runs })
+        let mut shared = Shared::new(alloc)?;
+        shared.make(alloc, 0)?;
+        let places = vec![in alloc; Place::Filled(0); n as usize]?;
+        Ok(Blocks {
+            places,
+            runs: Slab::new(alloc),
+            shared,
+        })
     }
 
     /// How many blocks there are.
@@ -81,9 +74,13 @@ impl Blocks {
         ensures bytes { result.now ≡ block_at self.now.blocks b }
         ensures len { length result.now ≡ 4096 }
     {
-        let p = self.places[b as usize];
-        let from = p.at * BLOCK;
-        &self.runs[p.run].bytes[from..from + BLOCK]
+        match self.places[b as usize] {
+            Place::Filled(byte) => self.shared.of(byte),
+            Place::Within { run, at } => {
+                let from = at as usize * BLOCK;
+                &self.runs[run].bytes[from..from + BLOCK]
+            }
+        }
     }
 
     /// Makes room for `n` more runs of bytes.
@@ -95,31 +92,91 @@ impl Blocks {
         self.runs.reserve(n)
     }
 
-    /// Lets the `n` blocks from `first` on hold these bytes: block after block, or, with a stride of 0, each the
-    /// first block of them.
-    pub(crate) fn hold(&mut self, first: u32, n: u32, bytes: Vec<u8>, stride: usize)
-        requires within { first + n ≤ length self.old.blocks }
-        requires stride { stride ≤ 1 }
-        requires whole { (i : ℕ) → i < n → 4096 * (i * stride + 1) ≤ length bytes.items }
-        requires room { 0 < self.old.room }
-        ensures bytes { Overwrites self.old.blocks self.new.blocks first n (λ i. block_of bytes.items (i * stride)) }
-        ensures room { self.old.room ≤ self.new.room + 1 }
+    /// Makes what blocks like these can share, as far as there is memory.
+    pub(crate) fn prepare(&mut self, alloc: Global, bytes: &[u8])
+        ensures { self.new ≡ self.old }
     {
-        if n == 0 {
-            return;
-        }
-        let run = self.runs.insert_reserved(Run { bytes, uses: 0 });
+        self.shared.make_all(alloc, bytes)
+    }
+
+    /// Lets the `n` blocks from `first` on hold this byte at each place.
+    pub(crate) fn fill(
+        &mut self,
+        alloc: Global,
+        first: u32,
+        n: u32,
+        byte: u8,
+    ) -> Result<(), AllocError>
+        requires within { first + n ≤ length self.old.blocks }
+        ensures blocks { OnOk result (Overwrites self.old.blocks self.new.blocks first n (λ i. filled byte)) }
+        ensures err { OnErr result (self.new.blocks ≡ self.old.blocks) }
+        ensures room { self.old.room ≤ self.new.room }
+    {
+        self.shared.make(alloc, byte)?;
         for i in 0..n {
-            let place = Place {
-                run,
-                at: i as usize * stride,
-            };
             settle(
                 &mut self.places,
                 &mut self.runs,
                 (first + i) as usize,
-                place,
+                Place::Filled(byte),
             );
+        }
+        Ok(())
+    }
+
+    /// Lets the `n` blocks from `first` on hold these bytes, where each of them is one of the shared blocks, and
+    /// tells whether it did.
+    fn hold_shared(&mut self, first: u32, n: u32, bytes: &[u8]) -> bool
+        requires within { first + n ≤ length self.old.blocks }
+        requires whole { 4096 * n ≤ length bytes.now }
+        ensures yes { result ≡ true → Overwrites self.old.blocks self.new.blocks first n (block_of bytes.now) }
+        ensures no { result ≡ false → self.new.blocks ≡ self.old.blocks }
+        ensures room { self.old.room ≤ self.new.room }
+    {
+        if !self.shared.has_all(bytes, n) {
+            return false;
+        }
+        for i in 0..n {
+            let byte = bytes[i as usize * BLOCK];
+            settle(
+                &mut self.places,
+                &mut self.runs,
+                (first + i) as usize,
+                Place::Filled(byte),
+            );
+        }
+        true
+    }
+
+    /// Lets the `n` blocks from `first` on stand in a run of these bytes.
+    fn hold_run(&mut self, first: u32, n: u32, bytes: Vec<u8>)
+        requires within { first + n ≤ length self.old.blocks }
+        requires whole { 4096 * n ≤ length bytes.items }
+        requires room { 0 < self.old.room }
+        ensures bytes { Overwrites self.old.blocks self.new.blocks first n (block_of bytes.items) }
+        ensures room { self.old.room ≤ self.new.room + 1 }
+    {
+        let run = self.runs.insert_reserved(Run { bytes, uses: 0 });
+        for i in 0..n {
+            settle(
+                &mut self.places,
+                &mut self.runs,
+                (first + i) as usize,
+                Place::Within { run, at: i },
+            );
+        }
+    }
+
+    /// Lets the `n` blocks from `first` on hold these bytes.
+    pub(crate) fn hold(&mut self, first: u32, n: u32, bytes: Vec<u8>)
+        requires within { first + n ≤ length self.old.blocks }
+        requires whole { 4096 * n ≤ length bytes.items }
+        requires room { 0 < self.old.room }
+        ensures bytes { Overwrites self.old.blocks self.new.blocks first n (block_of bytes.items) }
+        ensures room { self.old.room ≤ self.new.room + 1 }
+    {
+        if !self.hold_shared(first, n, &bytes) {
+            self.hold_run(first, n, bytes);
         }
     }
 
@@ -136,7 +193,7 @@ impl Blocks {
     {
         self.room(1)?;
         let bytes = Vec::from_slice(alloc, bytes)?;
-        self.hold(b, 1, bytes, 1);
+        self.hold(b, 1, bytes);
         Ok(())
     }
 
@@ -146,6 +203,11 @@ impl Blocks {
     {
         let places = Vec::from_slice(alloc, &self.places)?;
         let runs = self.runs.clone()?;
-        Ok(Blocks { places, runs })
+        let shared = self.shared.copy()?;
+        Ok(Blocks {
+            places,
+            runs,
+            shared,
+        })
     }
 }

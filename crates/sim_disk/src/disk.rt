@@ -6,7 +6,7 @@ ghost use Rattle.sim_disk.specs.Medium.{AreApart, count_of, is_of, write_of};
 
 mod crash;
 
-use crate::blocks::{BLOCK, Blocks, filled_block};
+use crate::blocks::{BLOCK, Blocks};
 use crate::write::{Write, take};
 pub use crash::Fate;
 use split_types::ReqId;
@@ -89,11 +89,7 @@ impl Disk {
         ensures rest { OnOk result (self.new ≡ record self.old { blocks = self.new.blocks }) }
         ensures err { OnErr result (self.new ≡ self.old) }
     {
-        let block = filled_block(alloc, byte)?;
-        let runs = self.writes.len().saturating_add(self.spare as usize);
-        self.blocks.room(runs.saturating_add(1))?;
-        self.blocks.hold(first, n, block, 0);
-        Ok(())
+        self.blocks.fill(alloc, first, n, byte)
     }
 
     /// Starts a write of these bytes, which are whole blocks, from block `first` on. It succeeds where there is
@@ -111,6 +107,7 @@ impl Disk {
         ensures succeeds { 0 < self.old.spare → IsOk result }
     {
         self.room(1)?;
+        self.blocks.prepare(*bytes.allocator(), &bytes);
         self.writes.push_reserved(Write::new(id, first, bytes));
         self.spare -= 1;
         Ok(())
@@ -129,7 +126,7 @@ impl Disk {
         let (first, bytes) = take(&mut self.writes, id).into_parts();
         if ok {
             let n = (bytes.len() / BLOCK) as u32;
-            self.blocks.hold(first, n, bytes, 1);
+            self.blocks.hold(first, n, bytes);
         }
     }
 }

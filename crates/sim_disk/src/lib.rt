@@ -5,17 +5,17 @@
 //! in which it is finished well; a write that is finished badly changes no block. A read sees no write in
 //! flight. A crash gives each block in flight one of three fates, and leaves all others.
 //!
-//! The disk is sparse: what was written together stands once in memory, blocks that are filled together
-//! share one block, and blocks that were never written share the one block of zeros. Memory is asked for by
-//! `start`, or by `room` before it, and never by `finish`.
+//! The disk is sparse: all blocks that have one byte at each place share one block in memory, for each byte,
+//! and what else was written together stands once in memory. Memory is asked for by `start`, or by `room`
+//! before it, and never by `finish`.
 //!
-//! It is for a machine that sends its writes to a disk, and for recovery from what a crash leaves of it. The
-//! program doesn't use it yet.
+//! The core sends its writes to a disk, and loads pages from it. What a crash leaves is for recovery.
 #![tactic(auto)]
 
 mod blocks;
 mod disk;
 mod runs;
+mod shared;
 mod write;
 
 pub use disk::{Disk, Fate};

@@ -1,16 +1,18 @@
-//! Runs of bytes, and the places of blocks in them.
-ghost use Rattle.std.specs.Prelude.{◌≡◌, ℕ, ◌+◌, ◌*◌, ◌^◌, ◌<◌, ◌≤◌, ◌==◌, if◌then◌else◌, length, map, vec_len, slice_set};
-ghost use Rattle.slab.specs.Slab.{get, slab_len, ContainsKey};
-ghost use Rattle.sim_disk.specs.Runs.{bytes_in, uses_in, content, AreKept};
+//! Runs of bytes, and the places of blocks.
+ghost use Rattle.std.specs.Prelude.{◌≡◌, ℕ, ◌+◌, ◌*◌, ◌^◌, ◌<◌, ◌≤◌, if◌then◌else◌, true, length, map, vec_len, slice_set};
+ghost use Rattle.slab.specs.Slab.{get, slab_len};
+ghost use Rattle.sim_disk.specs.Runs.{bytes_in, uses_in, content, is_in, Fits, AreKept};
 
 use slab::Slab;
 use std::alloc::AllocError;
 
-/// Where a block's bytes stand: in this run, behind `at` other blocks.
+/// Where a block's bytes stand.
 #[derive(Clone, Copy)]
-pub(crate) struct Place {
-    pub(crate) run: usize,
-    pub(crate) at: usize,
+pub(crate) enum Place {
+    /// In the block that all blocks share that have this byte at each place.
+    Filled(u8),
+    /// In this run, behind `at` other blocks.
+    Within { run: usize, at: u32 },
 }
 
 /// Bytes that came together, and how many blocks of the disk stand in them.
@@ -31,30 +33,34 @@ impl Clone for Run {
     }
 }
 
-/// Counts one block more in a run.
-fn enter(runs: &mut Slab<Run>, run: usize)
-    requires present { ContainsKey runs.old run }
-    requires few { uses_in (get runs.old run) < 2 ^ 32 }
-    ensures uses { (k : ℕ) → uses_in (get runs.new k) ≡ uses_in (get runs.old k) + (if run == k then 1 else 0) }
+/// Counts one block more in the run of a place, where it is in one.
+fn enter(runs: &mut Slab<Run>, p: Place)
+    requires within { Fits runs.old p }
+    requires few { (k : ℕ) → uses_in (get runs.old k) < 2 ^ 32 }
+    ensures uses { (k : ℕ) → uses_in (get runs.new k) ≡ uses_in (get runs.old k) + (if is_in k p then 1 else 0) }
     ensures bytes { (k : ℕ) → bytes_in (get runs.new k) ≡ bytes_in (get runs.old k) }
     ensures len { slab_len runs.new ≡ slab_len runs.old }
     ensures capacity { runs.new.capacity ≡ runs.old.capacity }
 {
-    runs[run].uses += 1;
+    if let Place::Within { run, .. } = p {
+        runs[run].uses += 1;
+    }
 }
 
-/// Counts one block fewer in a run, which leaves with its last block.
-fn leave(runs: &mut Slab<Run>, run: usize)
-    requires { 0 < uses_in (get runs.old run) }
-    ensures uses { (k : ℕ) → uses_in (get runs.new k) + (if run == k then 1 else 0) ≡ uses_in (get runs.old k) }
+/// Counts one block fewer in the run of a place, where it is in one. The run leaves with its last block.
+fn leave(runs: &mut Slab<Run>, p: Place)
+    requires { (k : ℕ) → is_in k p ≡ true → 0 < uses_in (get runs.old k) }
+    ensures uses { (k : ℕ) → uses_in (get runs.new k) + (if is_in k p then 1 else 0) ≡ uses_in (get runs.old k) }
     ensures bytes { (k : ℕ) → 0 < uses_in (get runs.new k) → bytes_in (get runs.new k) ≡ bytes_in (get runs.old k) }
     ensures len { slab_len runs.new ≤ slab_len runs.old }
     ensures capacity { runs.new.capacity ≡ runs.old.capacity }
 {
-    if runs[run].uses > 1 {
-        runs[run].uses -= 1;
-    } else {
-        runs.remove(run);
+    if let Place::Within { run, .. } = p {
+        if runs[run].uses > 1 {
+            runs[run].uses -= 1;
+        } else {
+            runs.remove(run);
+        }
     }
 }
 
@@ -62,17 +68,17 @@ fn leave(runs: &mut Slab<Run>, run: usize)
 pub(crate) fn settle(places: &mut Vec<Place>, runs: &mut Slab<Run>, b: usize, p: Place)
     requires kept { AreKept places.old.items runs.old }
     requires block { b < vec_len places.old }
-    requires within { 4096 * (p.at + 1) ≤ length (bytes_in (get runs.old p.run)) }
+    requires within { Fits runs.old p }
     ensures kept { AreKept places.new.items runs.new }
     ensures blocks { map (content runs.new) places.new.items ≡
         slice_set (map (content runs.old) places.old.items) b (content runs.old p) }
-    ensures run { bytes_in (get runs.new p.run) ≡ bytes_in (get runs.old p.run) }
-    ensures places { vec_len places.new ≡ vec_len places.old }
+    ensures run { (k : ℕ) → is_in k p ≡ true → bytes_in (get runs.new k) ≡ bytes_in (get runs.old k) }
+    ensures places { places.new.items ≡ slice_set places.old.items b p }
     ensures len { slab_len runs.new ≤ slab_len runs.old }
     ensures capacity { runs.new.capacity ≡ runs.old.capacity }
 {
-    let old = places[b].run;
+    let old = places[b];
     places[b] = p;
-    enter(runs, p.run);
+    enter(runs, p);
     leave(runs, old);
 }

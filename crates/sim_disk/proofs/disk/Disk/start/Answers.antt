@@ -1,6 +1,6 @@
 -- The write joins those in flight, which are as they were before room was made.
-use Rattle.std.proofs.Common.{◌≡◌, ◌+◌, ◌≤◌, length, All, None, arith, sym, ap, ◌∙◌, subst}
-use Rattle.sim_disk.specs.Medium.{InFlight, Medium, AreApart, count_of, write_of}
+use Rattle.std.proofs.Common.{◌≡◌, length, All, arith, sym, ap, ◌∙◌, subst}
+use Rattle.sim_disk.specs.Medium.{InFlight, AreApart, write_of}
 use Rattle.sim_disk.specs.Fields.{IsWithin}
 use Rattle.sim_disk.proofs.WriteLaws.{started}
 use Rattle.sim_disk.proofs.disk.Disk.start.Goals as goal
@@ -17,11 +17,12 @@ invariant_of-self c =
     let spare : c.self.inside.spare ≡ c.room.new.self.spare = ap (λ m. m.spare) c.self.view_is in
     let within : IsWithin (length c.self.inside.blocks.blocks) w =
     record { whole = c.requires.whole; end = omega (arith, c.requires.within, blocks) } in
+    let prepared : c.prepare.new.self ≡ c.self.inside.blocks = c.prepare.ensures in
     record {
-      writes = rw (c.push_reserved.ensures.items, c.new.ensures)
+      writes = rw (prepared, c.push_reserved.ensures.items, c.new.ensures)
           (started _ _ w kept.writes within (subst (All (AreApart w)) (sym writes) c.requires.apart)
           (ap (λ l. write_of l c.args.id) writes ∙ c.requires.other));
-      few = kept.few;
+      few = rw prepared kept.few;
       places = omega (arith, spare, c.in_ok-room.ensures.ok);
-      room = omega (arith, spare, c.in_ok-room.ensures.ok);
+      room = omega (arith, spare, c.in_ok-room.ensures.ok, ap (λ s. s.room) prepared);
     }
