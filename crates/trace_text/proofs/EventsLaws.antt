@@ -1,9 +1,9 @@
 -- The events of a trace, read one by one.
-use Rattle.std.proofs.Common.{◌≡◌, ℕ, ◌+◌, ◌<◌, ◌≤◌, ◌∙◌, List, [], ◌∷◌, ◌++◌, length, reverse, ap, refl, sym, subst, arith, length-append, append_assoc}
+use Rattle.std.proofs.Common.{◌≡◌, ℕ, ◌+◌, ◌<◌, ◌≤◌, ◌∙◌, List, [], ◌∷◌, ◌++◌, length, reverse, ap, sym, subst, arith, length-append, append_assoc}
 use Rattle.std.proofs.lemmas.List.{length_push, append-nil, reverse-append}
 use Rattle.split_types.specs.declared.event.Event.{Event}
 use Rattle.split_types.specs.History.{adds}
-use Rattle.split_types.specs.Lines.{line, lines_of}
+use Rattle.split_types.specs.Lines.{lines_of}
 use Rattle.split_types.specs.EventText.{event_words}
 use Rattle.split_types.proofs.Shared.{lines_of_append}
 use Rattle.workload_reader.specs.declared.cause.Cause.{Cause}

@@ -1,14 +1,13 @@
 -- The numbers that end a line.
-use Rattle.std.proofs.Common.{◌≡◌, ℕ, suc, ◌+◌, ◌<◌, ◌≤◌, ◌∙◌, Bool, true, false, ◌&&◌, List, [], ◌∷◌, ◌++◌, length, map, take, drop, set, get_or, ap, refl, sym, arith}
+use Rattle.std.proofs.Common.{◌≡◌, ℕ, ◌+◌, ◌<◌, ◌≤◌, ◌∙◌, Bool, true, false, ◌&&◌, List, [], ◌∷◌, ◌++◌, length, map, take, drop, set, get_or, ap, refl, sym, arith}
 use Rattle.std.proofs.lemmas.List.{length_push, take_more_set, length-set, map-append, drop_more}
 use Rattle.std.proofs.lemmas.List.Folds.{list_all-append}
 use Rattle.std.specs.List.{list_all}
-use Rattle.split_types.specs.Lines.{numeral}
 use Rattle.split_types.specs.EventText.{numerals, flag}
 use Rattle.workload_reader.specs.Fields.{ends_number, FieldAt, behind}
 use Rattle.trace_text.specs.EventLines.{is_small, is_wide}
 use Rattle.trace_text.specs.declared.numbers.Numbers.{Numbers}
-use Rattle.trace_text.specs.Numbers.{small_or_none, wide_or_none, SmallsAt, WidenedBy, LineNumbers, HasCounts, number_words, wide_of, Holds}
+use Rattle.trace_text.specs.Numbers.{small_or_none, wide_or_none, SmallsAt, WidenedBy, LineNumbers, HasCounts, number_words, Holds}
 use Rattle.trace_text.proofs.Fields.{ends_behind, numbers_alike, numbers_after, behind_push, behind_append}
 
 pub smalls_begin : (text small : List ℕ) (within : Bool) → length small ≡ 7 → within ≡ true

@@ -1,10 +1,8 @@
 -- The lines of requests, behind what they begin with.
-use Rattle.std.proofs.Common.{◌≡◌, ◌≢◌, ℕ, zero, suc, ◌+◌, ◌<◌, ◌≤◌, ◌==◌, ◌∙◌, Bool, true, false, List, [], ◌∷◌, ◌++◌, length, map, take, get_or, codes, if◌then◌else◌, Option, Some, None, ap, refl, sym, subst, arith, eq-eqb, eqb-true, length-append}
+use Rattle.std.proofs.Common.{◌≡◌, ◌≢◌, ℕ, zero, suc, ◌≤◌, ◌==◌, ◌∙◌, Bool, true, false, List, [], ◌∷◌, ◌++◌, length, map, get_or, codes, if◌then◌else◌, Option, ap, refl, sym, arith, eq-eqb, eqb-true}
 use Rattle.std.proofs.lemmas.Bool.{false≢true}
 use Rattle.std.proofs.lemmas.List.{get_or-take, append-nil}
-use Rattle.split_types.specs.declared.ids.Pid.{Pid}
 use Rattle.split_types.specs.declared.actor.Actor.{Actor}
-use Rattle.split_types.specs.declared.actor.Actor.TheVariants as actor
 use Rattle.split_types.specs.declared.request.ReqKind.{ReqKind}
 use Rattle.split_types.specs.declared.request.ReqKind.TheVariants as kind
 use Rattle.split_types.specs.declared.event.Event.{Event}
@@ -16,9 +14,9 @@ use Rattle.workload_reader.proofs.Alike.{cancel}
 use Rattle.trace_text.specs.declared.numbers.Numbers.{Numbers}
 use Rattle.trace_text.specs.declared.row.RequestRow.{RequestRow}
 use Rattle.trace_text.specs.declared.row.RequestRow.TheVariants as asked
-use Rattle.trace_text.specs.EventLines.{EventLine, Shown, OddMap, is_small, smalls, wides, IsAskedBy, IsFormed}
+use Rattle.trace_text.specs.EventLines.{EventLine, Shown, is_small, smalls, IsAskedBy, IsFormed}
 use Rattle.trace_text.specs.Numbers.{small_or_none, LineNumbers, HasCounts, number_words, Holds}
-use Rattle.trace_text.specs.Rows.{Row, Asks, Reads, request_count, request_event, allows, read_event}
+use Rattle.trace_text.specs.Rows.{Asks, Reads, request_count, request_event, allows, read_event}
 use Rattle.trace_text.specs.Tails.{added_row, row_of, number_of, added_words, last_words, tail, Says}
 use Rattle.trace_text.proofs.Fields.{numbers_alike}
 use Rattle.trace_text.proofs.ClientEvents.{none_left, all_of_them}

@@ -23,7 +23,7 @@ use Rattle.split_types.specs.Calls.{name_of}
 use Rattle.split_types.specs.Workloads.{span}
 use Rattle.split_types.specs.IsWorkload.{IsAccount, IsProcess, IsPreset, IsAsked, IsCall, IsTurnOf, IsGo}
 use Rattle.split_types.specs.WorkloadText.{Spells}
-use Rattle.split_types.specs.Accepted.{IsOverwrite, IsAccepted}
+use Rattle.split_types.specs.Accepted.{IsBuiltCall, IsAccepted}
 use Rattle.workload_reader.specs.declared.line.Line.{Line}
 use Rattle.workload_reader.specs.declared.line.Line.TheVariants as kind
 use Rattle.workload_reader.specs.Line.{IsFormed, place, stands, stage, said, with_line}
@@ -135,7 +135,7 @@ each_file w h ys f zs is =
         new = apart w.files ys f zs is h.workload.presets.apart;
         few = omega (arith, few, h.workload.presets.few);
         fits = omega (arith, pages, h.workload.presets.fit);
-        built = omega (arith, pages, h.built.pages);
+        built = tt;
       },
     )
 
@@ -153,21 +153,16 @@ call_range (call.Read name off len) asked =
     record { off_most = asked.off_most; len_least = asked.len_least; len_most = asked.len_most }
 call_range c asked = tt
 
-overwrites : (w : Workload) (calls : List (Pid × Call)) (c : Call) → IsOverwrite w c → IsOverwrite (put_calls w calls) c
-overwrites w calls (call.Write name off len fill) h = record {
-  serial = h.serial;
-  named = h.named;
-  starts_page = h.starts_page;
-  whole_pages = h.whole_pages;
-  within = h.within;
-}
-overwrites w calls c h = absurd h
+with_calls : (w : Workload) (calls : List (Pid × Call)) (c : Call) → IsBuiltCall w c → IsBuiltCall (put_calls w calls) c
+with_calls w calls (call.Write name off len fill) h = h
+with_calls w calls (call.Read name off len) h = tt
+with_calls w calls c h = absurd h
 
 each_call : (w : Workload) → IsAccepted w → EachRight call_line (put_calls w) w.calls
 each_call w h ys c zs is =
     let q = all_mid (IsCall (length w.procs)) ys c zs
     (subst (All (IsCall (length w.procs))) is h.workload.calls.each) in
-    let over = all_mid (λ c. IsOverwrite w c.1) ys c zs (subst (All (λ c. IsOverwrite w c.1)) is h.built.overwrites) in
+    let built = all_mid (λ c. IsBuiltCall w c.1) ys c zs (subst (All (λ c. IsBuiltCall w c.1)) is h.built.calls) in
     let few = few_mid w.calls ys c zs is in
     let pages = sum_mid (λ c. span c.1) w.calls ys c zs is in (
       call_named c.1 q.asked,
@@ -177,7 +172,7 @@ each_call w h ys c zs is =
         new = tt;
         few = (omega (arith, few, h.workload.calls.few), omega (arith, pages, h.workload.calls.few_pages));
         fits = tt;
-        built = overwrites w ys c.1 over;
+        built = with_calls w ys c.1 built;
       },
     )
 

@@ -24,7 +24,7 @@ use Rattle.split_types.specs.Workloads.{first_block, span}
 use Rattle.split_types.specs.IsWorkload.{IsAccount, IsProcess, IsPreset, IsAsked, IsCall, IsTurnOf, IsGo}
 use Rattle.split_types.specs.IsWorkload.{most_processes, least_device}
 use Rattle.split_types.specs.WorkloadText.{workload_text, Spells}
-use Rattle.split_types.specs.Accepted.{IsOverwrite, IsAccepted}
+use Rattle.split_types.specs.Accepted.{IsBuiltCall, IsAccepted}
 use Rattle.workload_reader.specs.declared.line.Line.{Line}
 use Rattle.workload_reader.specs.declared.line.Line.TheVariants as kind
 use Rattle.workload_reader.specs.Line.{IsFormed, said, with_line, has_ended, lines_text}
@@ -150,7 +150,6 @@ record FilesSoFar (w : Workload) (files : List Preset) : Type 0 where
   each : All IsPreset files
   apart : AllPairs (λ f g. IsFalse (bytes_eq f.name g.name)) files
   fit : first_block w + sum_by (λ f. f.pages) files ≤ w.device
-  pages : sum_by (λ f. f.pages) files + length w.procs ≤ w.cache
 
 one_file : (w : Workload) (files : List Preset) (f : Preset) → IsFormed (kind.File f)
     → IsRight (put_files w files) (kind.File f) → FilesSoFar w files → FilesSoFar w (files ++ f ∷ [])
@@ -164,24 +163,18 @@ one_file w files f formed right so = record {
       });
   apart = all_pairs_push (λ f g. IsFalse (bytes_eq f.name g.name)) files f so.apart right.new;
   fit = omega (arith, right.fits, sum_by_push (λ f. f.pages) files f);
-  pages = omega (arith, right.built, sum_by_push (λ f. f.pages) files f);
 }
 
-overwrite : (w : Workload) (calls : List (Pid × Call)) (c : Call) → IsOverwrite (put_calls w calls) c → IsOverwrite w c
-overwrite w calls (call.Write name off len fill) h = record {
-  serial = h.serial;
-  named = h.named;
-  starts_page = h.starts_page;
-  whole_pages = h.whole_pages;
-  within = h.within;
-}
-overwrite w calls c h = absurd h
+without_calls : (w : Workload) (calls : List (Pid × Call)) (c : Call) → IsBuiltCall (put_calls w calls) c → IsBuiltCall w c
+without_calls w calls (call.Write name off len fill) h = h
+without_calls w calls (call.Read name off len) h = tt
+without_calls w calls c h = absurd h
 
 record CallsSoFar (w : Workload) (calls : List (Pid × Call)) : Type 0 where
   few : length calls ≤ 65536
   few_pages : sum_by (λ c. span c.1) calls ≤ 131072
   each : All (IsCall (length w.procs)) calls
-  overwrites : All (λ c. IsOverwrite w c.1) calls
+  built : All (λ c. IsBuiltCall w c.1) calls
 
 -- what is asked of a call, whose name is one
 asked : (c : Call) → IsTrue (is_name (name_of c)) → IsCallInRange c → IsAsked c
@@ -215,7 +208,7 @@ one_call w calls c formed right so = record {
         by_most = right.refers.most;
         asked = asked c.1 formed right.in_range;
       });
-  overwrites = All-push (λ c. IsOverwrite w c.1) calls c so.overwrites (overwrite w calls c.1 right.built);
+  built = All-push (λ c. IsBuiltCall w c.1) calls c so.built (without_calls w calls c.1 right.built);
 }
 
 one_fail : (w : Workload) (fails : List ℕ) (s : ℕ) → IsFormed (kind.Fail s) → IsRight (put_fails w fails) (kind.Fail s)
@@ -279,13 +272,12 @@ accepted w right =
       each = All-nil IsPreset;
       apart = λ i j d lt within. absurd (omega (arith, within));
       fit = first w version.3.built device.3.in_range.0;
-      pages = omega (arith, ps.below_cache);
     }) in
     let cs : CallsSoFar w w.calls = calls.1 (record {
       few = omega arith;
       few_pages = omega arith;
       each = All-nil (IsCall (length w.procs));
-      overwrites = All-nil (λ c. IsOverwrite w c.1);
+      built = All-nil (λ c. IsBuiltCall w c.1);
     }) in
     let none : w.fails ≡ [] = fails.1 refl in
     let gs : GoSoFar w w.go = go.1 (record { few = omega arith; each = All-nil (IsGo (length w.procs)) }) in
@@ -315,8 +307,7 @@ accepted w right =
         version = version.3.built;
         sched = sched.3.built;
         fails = none;
-        pages = fs.pages;
-        overwrites = cs.overwrites;
+        calls = cs.built;
       };
     }
 

@@ -12,7 +12,7 @@ use Rattle.split_types.specs.declared.workload.Go.{Go}
 use Rattle.split_types.specs.declared.workload.Workload.{Workload}
 use Rattle.split_types.specs.Workloads.{span, spans, preset_pages, go_turns, first_block}
 use Rattle.split_types.specs.IsWorkload.{IsAccount, least_device, most_processes}
-use Rattle.split_types.specs.Accepted.{IsOverwrite}
+use Rattle.split_types.specs.Accepted.{IsBuiltCall}
 use Rattle.workload_reader.specs.declared.cause.Cause.{Cause}
 use Rattle.workload_reader.specs.declared.cause.Cause.TheVariants as cause
 use Rattle.workload_reader.specs.declared.line.Line.{Line}
@@ -102,8 +102,7 @@ Fits w _ = Unit {0}
 abbrev pub IsBuiltLine : Workload → Line → Type 0
 IsBuiltLine w (kind.Version n) = n ≡ 1
 IsBuiltLine w (kind.Sched s) = s ≡ Fifo
-IsBuiltLine w (kind.File f) = preset_pages w + f.pages + length w.procs ≤ w.cache
-IsBuiltLine w (kind.Call p c) = IsOverwrite w c
+IsBuiltLine w (kind.Call p c) = IsBuiltCall w c
 IsBuiltLine w (kind.Fail s) = ⊥
 IsBuiltLine w _ = Unit {0}
 

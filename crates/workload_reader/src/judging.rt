@@ -3,7 +3,7 @@ ghost use Rattle.std.specs.Prelude.{◌≡◌, ◌↔◌, ◌+◌, ◌<◌, ◌�
 ghost use Rattle.split_types.specs.Workloads.{first_block, file_named, pages_in, preset_pages, span, spans};
 ghost use Rattle.std.specs.Str.{bytes_eq};
 ghost use Rattle.split_types.specs.IsWorkload.{most_processes};
-ghost use Rattle.split_types.specs.Accepted.{OverwritesPages, IsOverwrite};
+ghost use Rattle.split_types.specs.Accepted.{IsWithinPreset, IsBuiltCall};
 ghost use Rattle.workload_reader.specs.Table.{InRange, Refers, IsNew, IsFew, Fits, IsBuiltLine, IsRight, Fails};
 
 use crate::adding::span;
@@ -104,37 +104,25 @@ impl Seen {
         }
     }
 
-    /// Whether the range of bytes is one of whole pages of the file of that name.
-    fn overwrites(&self, name: &Name, off: u32, len: u32) -> bool
-        ensures { IsTrue result ↔ OverwritesPages self.now.workload name.now off len }
+    /// Whether the range of bytes lies in the pages of the file of that name, where there is one.
+    fn is_within_preset(&self, name: &Name, off: u32, len: u32) -> bool
+        ensures { IsTrue result ↔ IsWithinPreset self.now.workload name.now off len }
     {
         match self.pages_of(name) {
-            Some(pages) => {
-                off % 4096 == 0
-                    && len % 4096 == 0
-                    && u64::from(off) + u64::from(len) <= 4096 * u64::from(pages)
-            }
-            None => false,
+            Some(pages) => u64::from(off) + u64::from(len) <= 4096 * u64::from(pages),
+            None => true,
         }
     }
 
-    /// Whether the call is an overwrite of whole pages.
-    fn is_overwrite(&self, call: &Call) -> bool
-        ensures { IsTrue result ↔ IsOverwrite self.now.workload call.now }
+    /// Whether the call is a read, or a write that makes no file grow.
+    fn is_built_call(&self, call: &Call) -> bool
+        ensures { IsTrue result ↔ IsBuiltCall self.now.workload call.now }
     {
         match call {
-            Call::Write { name, off, len, .. } => self.overwrites(name, *off, *len),
-            _ => false,
+            Call::Write { name, off, len, .. } => self.is_within_preset(name, *off, *len),
+            Call::Read { .. } => true,
+            Call::Creat { .. } | Call::Fsync { .. } | Call::Unlink { .. } => false,
         }
-    }
-
-    /// Whether with the file there is room in the cache for the pages of all files, and for one of each process.
-    fn has_room_for(&self, pages: u32) -> bool
-        ensures { IsTrue result
-            ↔ (preset_pages self.now.workload + pages + length self.now.workload.procs ≤ self.now.workload.cache) }
-    {
-        let pages = u64::from(self.pages) + u64::from(pages);
-        pages + self.workload.procs.len() as u64 <= u64::from(self.workload.cache)
     }
 
     /// Whether what the line asks for is built.
@@ -144,8 +132,7 @@ impl Seen {
         match line {
             Line::Version(n) => *n == 1,
             Line::Sched(sched) => matches!(sched, Sched::Fifo),
-            Line::File(file) => self.has_room_for(file.pages),
-            Line::Call(_, call) => self.is_overwrite(call),
+            Line::Call(_, call) => self.is_built_call(call),
             Line::Fail(_) => false,
             _ => true,
         }

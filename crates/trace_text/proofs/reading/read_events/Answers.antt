@@ -1,4 +1,4 @@
-use Rattle.std.proofs.Common.{◌≡◌, reverse, refl, sym, ap, arith}
+use Rattle.std.proofs.Common.{reverse, refl, sym, ap, arith}
 use Rattle.split_types.specs.History.{adds}
 use Rattle.trace_text.proofs.EventsLaws.{events_begin, events_more, adds_more, event_some, event_stops}
 use Rattle.trace_text.proofs.reading.read_events.Goals as goal

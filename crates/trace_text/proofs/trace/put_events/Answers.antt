@@ -1,5 +1,5 @@
 -- One event more.
-use Rattle.std.proofs.Common.{◌≡◌, ◌<◌, length, reverse, slice_get, Some, arith, sym, ◌∙◌}
+use Rattle.std.proofs.Common.{◌≡◌, reverse, slice_get, Some, sym, ◌∙◌}
 use Rattle.std.proofs.lemmas.Option.{get_or_from_slice_get, slice_get_within}
 use Rattle.split_types.specs.EventText.{event_words}
 use Rattle.split_types.proofs.Shared.{slice_get-reverse}
