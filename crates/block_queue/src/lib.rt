@@ -6,8 +6,8 @@
 //! moves one request and leaves the others; memory is asked for by `add` alone, or by `room` before
 //! it.
 //!
-//! `sched_api` stands on this crate: a scheduler picks from the requests that wait which is sent next. The
-//! program doesn't use it yet.
+//! The core keeps its requests in a queue. `sched_api` stands on this crate too: a scheduler picks from the
+//! requests that wait which is sent next.
 #![tactic(auto)]
 
 mod queue;

@@ -1,4 +1,4 @@
--- What is written of each request after one event more, and which are queued and in flight.
+-- What is written of each request after one event more.
 use Rattle.std.proofs.Common.{◌≡◌, ℕ, ◌+◌, ◌<◌, List, [], ◌∷◌, ◌++◌, length, Bool, true, false, ◌==◌, cond, Some, refl}
 use Rattle.std.proofs.Common.{ap, sym, ◌∙◌, subst, arith, inl, inr, slice_get, slice_index_or, eq-eqb, ne_eqb}
 use Rattle.std.specs.Prelude.{slice_set}
@@ -141,6 +141,20 @@ book_done w h k id ok b c x new fits stands read items request tagged costs stat
       state_is = is.state_is ∙ sym (rw (ne_eqb id.0 n (λ (e : id.0 ≡ n). other (sym e))) refl);
     })
 
--- ---- the first of the queue
-pub first_is : (queue rest : List Request) (q r : Request) → queue ≡ q ∷ rest → slice_get queue 0 ≡ Some r → q ≡ r
-first_is queue rest q r is at = let here : Some q ≡ Some r = sym (ap (λ l. slice_get l 0) is) ∙ at in cc
+-- ---- an event of another kind
+pub book_stays : (h : List Event) (e : Event) (b : Book) → ((by : Actor) (r : Request) → e ≡ Add by r → ⊥)
+    → ((id : ReqId) (cost : ℕ) → e ≡ Send id cost → ⊥) → ((k : ℕ) (id : ReqId) (ok : Bool) → e ≡ Done k id ok → ⊥)
+    → BookStands b h → BookStands b (h ▹ e)
+book_stays h (Add by r) b add send done stands = absurd (add by r refl)
+book_stays h (Send id cost) b add send done stands = absurd (send id cost refl)
+book_stays h (Done k id ok) b add send done stands = absurd (done k id ok refl)
+book_stays h e b add send done stands = record {
+  added = stands.added;
+  entries_are = λ id x at. (let is = stands.entries_are id x at
+      in record {
+        request_is = is.request_is;
+        tag_is = is.tag_is;
+        cost_is = is.cost_is;
+        state_is = is.state_is;
+      });
+}

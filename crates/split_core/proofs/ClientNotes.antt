@@ -1,5 +1,5 @@
 -- How far each process has come after one event more.
-use Rattle.std.proofs.Common.{◌≡◌, ◌≢◌, ℕ, ◌+◌, ◌-◌, ◌<◌, ◌≤◌, List, [], length, false, ◌==◌, Some, refl, ap, sym, ◌∙◌}
+use Rattle.std.proofs.Common.{◌≡◌, ◌≢◌, ℕ, ◌+◌, ◌-◌, ◌<◌, ◌≤◌, List, [], length, true, false, ◌==◌, Some, None, refl, ap, sym, ◌∙◌}
 use Rattle.std.proofs.Common.{subst, arith, inl, inr, IsTrue, IsFalse, slice_get, slice_index_or, eq-eqb, ne_eqb}
 use Rattle.std.proofs.Common.{eqb-true}
 use Rattle.std.specs.Prelude.{replicate, slice_set}
@@ -11,31 +11,42 @@ use Rattle.split_types.specs.declared.actor.Actor.TheVariants.{Client}
 use Rattle.split_types.specs.declared.call.Reply.{Reply}
 use Rattle.split_types.specs.declared.workload.Workload.{Workload}
 use Rattle.split_types.specs.declared.event.Event.{Event}
-use Rattle.split_types.specs.declared.event.Event.TheVariants.{Enter, Admit, Put, Get, Ret}
+use Rattle.split_types.specs.declared.event.Event.TheVariants.{Enter, Admit, Make, Put, Get, Drop, Ret, Add, Done}
 use Rattle.split_types.specs.History.{◌▹◌}
 use Rattle.split_types.specs.Hooks.{maker}
 use Rattle.split_types.specs.Calls.{returned}
+use Rattle.split_types.specs.Files.{bound_file}
+use Rattle.split_types.specs.FileSizes.{working_file, size_at_admit}
+use Rattle.split_types.specs.Reads.{is_process}
 use Rattle.split_types.specs.Workloads.{calls_of}
 use Rattle.split_types.specs.Legal.{is_finished}
 use Rattle.split_types.proofs.Shared.{some_at}
 use Rattle.split_core.specs.declared.note.clients.Client.{Client as Kept}
 use Rattle.split_core.specs.declared.note.clients.Clients.{Clients}
-use Rattle.split_core.specs.Fits.{ClientFits}
+use Rattle.split_core.specs.Awaits.{reader_at, done_for}
+use Rattle.split_core.specs.Fits.{ClientFits, FitsKind}
 use Rattle.split_core.specs.Clients.{client_of, ClientsStand}
 
 -- ---- which processes an event moves on
 other_number : (b : Pid) (q : ℕ) → (q ≡ b.0 → ⊥) → (b.0 == q) ≡ false
 other_number b q other = ne_eqb b.0 q (λ (e : b.0 ≡ q). other (sym e))
 
--- an event moves on the process alone that makes it
-pub others_stay : (w : Workload) (h : List Event) (e : Event) (q : ℕ)
-    → ((by : Pid) → maker e ≡ Client by → q ≡ by.0 → ⊥) → client_of w (h ▹ e) q ≡ client_of w h q
-others_stay w h (Enter b k) q other = rw (other_number b q (other b refl)) refl
-others_stay w h (Admit b) q other = rw (other_number b q (other b refl)) refl
-others_stay w h (Put b s g from to fill) q other = rw (other_number b q (other b refl)) refl
-others_stay w h (Get b s g from to sum) q other = rw (other_number b q (other b refl)) refl
-others_stay w h (Ret b r) q other = rw (other_number b q (other b refl)) refl
-others_stay w h e q other = refl
+-- an event moves on the process alone that makes it, and the one for which a request reads that it says to be done
+pub others_stay : (w : Workload) (h : List Event) (e : Event) (q : ℕ) → FitsKind w h e
+    → ((by : Pid) → maker e ≡ Client by → q ≡ by.0 → ⊥) → is_process q (done_for h e) ≡ false
+    → client_of w (h ▹ e) q ≡ client_of w h q
+others_stay w h (Enter b k) q fits other unread = rw (other_number b q (other b refl)) refl
+others_stay w h (Admit b) q fits other unread =
+    rw (other_number b q (other b refl), size_at_admit, working_file, bound_file) refl
+others_stay w h (Put b s g from to fill) q fits other unread = rw (other_number b q (other b refl)) refl
+others_stay w h (Get b s g from to sum) q fits other unread = rw (other_number b q (other b refl)) refl
+others_stay w h (Ret b r) q fits other unread =
+    rw (other_number b q (other b refl), working_file, bound_file) refl
+others_stay w h (Make b slot serial) q fits other unread = absurd fits
+others_stay w h (Drop b slot serial) q fits other unread = absurd fits
+others_stay w h (Add (Client b) r) q fits other unread = rw (other_number b q (other b refl)) refl
+others_stay w h (Done k id ok) q fits other unread = rw unread refl
+others_stay w h e q fits other unread = refl
 
 -- ---- those that have no call left
 -- what is kept of the processes, and how many of them have no call left
@@ -92,13 +103,20 @@ clients_none w c new items is most all left = clients_stand w [] c 0 (record {
 -- of a process that has a call left, what is kept after its event
 pub record Moved (w : Workload) (h : List Event) (e : Event) (by : Pid) (old new : Clients) : Type 0 where
   pub fits : ClientFits w h by
+  pub kind : FitsKind w h e
   pub made : maker e ≡ Client by
   pub stands : ClientsStand w old h
   pub items : new.clients.items ≡ slice_set old.clients.items (by.0 - 1) (client_of w (h ▹ e) by.0)
 
-stays : (w : Workload) (h : List Event) (e : Event) (by : Pid) (q : ℕ) → maker e ≡ Client by → (q ≡ by.0 → ⊥)
-    → client_of w (h ▹ e) q ≡ client_of w h q
-stays w h e by q made other = others_stay w h e q (λ p is same. other (same ∙ mine p is))
+-- an event of a process isn't a completion
+own_not_done : (h : List Event) (e : Event) (by : Pid) → maker e ≡ Client by → done_for h e ≡ None
+own_not_done h (Done k id ok) by made = absurd (cc made)
+own_not_done h e by made = refl
+
+stays : (w : Workload) (h : List Event) (e : Event) (by : Pid) (q : ℕ) → FitsKind w h e → maker e ≡ Client by
+    → (q ≡ by.0 → ⊥) → client_of w (h ▹ e) q ≡ client_of w h q
+stays w h e by q fits made other =
+    others_stay w h e q fits (λ p is same. other (same ∙ mine p is)) (ap (is_process q) (own_not_done h e by made))
   where
     mine : (p : Pid) → maker e ≡ Client p → p.0 ≡ by.0
     mine p is =
@@ -118,7 +136,7 @@ moved_at w h e by old new m i x at = elim (cases_eq i (by.0 - 1)) [
       (omega (arith, within, ap length m.items, length-set old.clients.items (by.0 - 1) mine)) in
       sym read ∙ get_or-set_other old.clients.items (by.0 - 1) i mine mine other
       ∙ get_or_from_slice_get old.clients.items i was.0 mine was.1 ∙ m.stands.clients_are i was.0 was.1
-      ∙ sym (stays w h e by (i + 1) m.made (λ same. other (omega (arith, same, m.fits.first)))))
+      ∙ sym (stays w h e by (i + 1) m.kind m.made (λ same. other (omega (arith, same, m.fits.first)))))
 ]
   where
     mine : Kept
@@ -146,7 +164,7 @@ clients_by w h e by old new m most all left = clients_stand w (h ▹ e) new old.
     still : (i : ℕ) → i < old.finished → IsTrue (is_finished w (h ▹ e) (i + 1))
     still i below =
         let done : returned h (i + 1) ≡ length (calls_of w (i + 1)) = eqb-true _ _ (m.stands.finished_are i below) in
-        let same = ap (λ (x : Kept). x.returned) (stays w h e by (i + 1) m.made (λ is. absurd (busy is done))) in
+        let same = ap (λ (x : Kept). x.returned) (stays w h e by (i + 1) m.kind m.made (λ is. absurd (busy is done))) in
         eq-eqb (returned (h ▹ e) (i + 1)) (length (calls_of w (i + 1))) (same ∙ done)
       where
         busy : i + 1 ≡ by.0 → returned h (i + 1) ≡ length (calls_of w (i + 1)) → ⊥
@@ -186,9 +204,10 @@ clients_on w h e by old new m none same = clients_by w h e by old new m (omega (
         cc
 
 -- ---- an event of no process
-pub clients_stay : (w : Workload) (h : List Event) (e : Event) (c : Clients) → ((by : Pid) → maker e ≡ Client by → ⊥)
+pub clients_stay : (w : Workload) (h : List Event) (e : Event) (c : Clients) → FitsKind w h e
+    → ((by : Pid) → maker e ≡ Client by → ⊥) → done_for h e ≡ None
     → ClientsStand w c h → ClientsStand w c (h ▹ e)
-clients_stay w h e c none stands = record {
+clients_stay w h e c fits none unread stands = record {
   processes = stands.processes;
   clients_are = λ i x at. stands.clients_are i x at ∙ sym (same (i + 1));
   finished_most = stands.finished_most;
@@ -199,12 +218,102 @@ clients_stay w h e c none stands = record {
 }
   where
     same : (q : ℕ) → client_of w (h ▹ e) q ≡ client_of w h q
-    same q = others_stay w h e q (λ by is at. none by is)
+    same q = others_stay w h e q fits (λ by is at. none by is) (ap (is_process q) unread)
 
--- the process that makes an event, as it is read
+-- ---- a read that is done
+-- a process that awaits nothing more
+abbrev pub served : Kept → Kept
+served x = record {
+  returned = x.returned;
+  entered = x.entered;
+  admitted = x.admitted;
+  file = x.file;
+  size = x.size;
+  moved = x.moved;
+  got = x.got;
+  awaits = false;
+}
+
+-- the process for which the request reads awaits that no longer
+served_is : (w : Workload) (h : List Event) (e : Event) (by : Pid) → done_for h e ≡ Some by
+    → client_of w (h ▹ e) by.0 ≡ served (client_of w h by.0)
+served_is w h (Done k id ok) by is =
+    let its : is_process by.0 (reader_at h id.0) ≡ true = ap (is_process by.0) is ∙ eq-eqb by.0 by.0 refl in
+    rw its refl
+served_is w h e by is = absurd (cc is)
+
+-- no process makes a completion
+made_by_none : (h : List Event) (e : Event) (by : Pid) → done_for h e ≡ Some by → (p : Pid) → maker e ≡ Client p → ⊥
+made_by_none h (Done k id ok) by is p made = absurd (cc made)
+made_by_none h e by is p made = absurd (cc is)
+
+-- what is kept after such a completion
+pub record Arrived (w : Workload) (h : List Event) (e : Event) (by : Pid) (old new : Clients) : Type 0 where
+  pub first : 1 ≤ by.0
+  pub last : by.0 ≤ length w.procs
+  pub kind : FitsKind w h e
+  pub read : done_for h e ≡ Some by
+  pub stands : ClientsStand w old h
+  pub items : new.clients.items ≡ slice_set old.clients.items (by.0 - 1) (served (client_of w h by.0))
+  pub same : new.finished ≡ old.finished
+
+arrived_at : (w : Workload) (h : List Event) (e : Event) (by : Pid) (old new : Clients)
+    → Arrived w h e by old new → (i : ℕ) (x : Kept) → slice_get new.clients.items i ≡ Some x
+    → x ≡ client_of w (h ▹ e) (i + 1)
+arrived_at w h e by old new a i x at = elim (cases_eq i (by.0 - 1)) [
+  | inl here ↦ sym read ∙ ap (λ k. slice_index_or (slice_set old.clients.items (by.0 - 1) mine) k mine) here
+      ∙ get_or-set_same old.clients.items (by.0 - 1) mine mine (omega (arith, a.first, a.last, a.stands.processes))
+      ∙ sym (served_is w h e by a.read) ∙ ap (client_of w (h ▹ e)) (omega (arith, a.first, here))
+  | inr other ↦
+      (let within = slice_get_within new.clients.items i x at in
+      let was = some_at old.clients.items i
+      (omega (arith, within, ap length a.items, length-set old.clients.items (by.0 - 1) mine)) in
+      sym read ∙ get_or-set_other old.clients.items (by.0 - 1) i mine mine other
+      ∙ get_or_from_slice_get old.clients.items i was.0 mine was.1 ∙ a.stands.clients_are i was.0 was.1
+      ∙ sym (others_stay w h e (i + 1) a.kind (λ p made same. made_by_none h e by a.read p made)
+      (ap (is_process (i + 1)) a.read
+      ∙ ne_eqb by.0 (i + 1) (λ (same : by.0 ≡ i + 1). other (omega (arith, same, a.first))))))
+]
+  where
+    mine : Kept
+    mine = served (client_of w h by.0)
+
+    read : slice_index_or (slice_set old.clients.items (by.0 - 1) mine) i mine ≡ x
+    read = ap (λ l. slice_index_or l i mine) (sym a.items) ∙ get_or_from_slice_get new.clients.items i x mine at
+
+-- a completion returns no call
+done_returns : (h : List Event) (e : Event) (by : Pid) (q : ℕ) → done_for h e ≡ Some by
+    → returned (h ▹ e) q ≡ returned h q
+done_returns h (Done k id ok) by q is = refl
+done_returns h e by q is = absurd (cc is)
+
+pub clients_arrive : (w : Workload) (h : List Event) (e : Event) (by : Pid) (old new : Clients)
+    → Arrived w h e by old new → ClientsStand w new (h ▹ e)
+clients_arrive w h e by old new a = record {
+  processes = ap length a.items ∙ length-set old.clients.items (by.0 - 1) (served (client_of w h by.0))
+      ∙ a.stands.processes;
+  clients_are = arrived_at w h e by old new a;
+  finished_most = omega (arith, a.same, a.stands.finished_most);
+  finished_are = λ i below.
+      subst (λ n. IsTrue (n == length (calls_of w (i + 1)))) (sym (done_returns h e by (i + 1) a.read))
+      (a.stands.finished_are i (omega (arith, below, a.same)));
+  next_is_left = λ below.
+      subst (λ n. IsFalse (n == length (calls_of w (new.finished + 1))))
+      (sym (done_returns h e by (new.finished + 1) a.read))
+      (subst (λ n. IsFalse (is_finished w h (n + 1))) (sym a.same)
+      (a.stands.next_is_left (omega (arith, below, a.same))));
+}
+
+-- a process of the workload, as it is read
+pub process_at : (w : Workload) (h : List Event) (c : Clients) (by : Pid) (x : Kept) → 1 ≤ by.0
+    → by.0 ≤ length w.procs → ClientsStand w c h → x ≡ slice_index_or c.clients.items (by.0 - 1) x
+    → x ≡ client_of w h by.0
+process_at w h c by x first last stands read =
+    let was = some_at c.clients.items (by.0 - 1) (omega (arith, first, last, stands.processes)) in
+    read ∙ get_or_from_slice_get c.clients.items (by.0 - 1) was.0 x was.1 ∙ stands.clients_are (by.0 - 1) was.0 was.1
+    ∙ ap (client_of w h) (omega (arith, first))
+
+-- the process that makes an event
 pub client_at : (w : Workload) (h : List Event) (c : Clients) (by : Pid) (x : Kept) → ClientFits w h by
     → ClientsStand w c h → x ≡ slice_index_or c.clients.items (by.0 - 1) x → x ≡ client_of w h by.0
-client_at w h c by x fits stands read =
-    let was = some_at c.clients.items (by.0 - 1) (omega (arith, fits.first, fits.last, stands.processes)) in
-    read ∙ get_or_from_slice_get c.clients.items (by.0 - 1) was.0 x was.1 ∙ stands.clients_are (by.0 - 1) was.0 was.1
-    ∙ ap (client_of w h) (omega (arith, fits.first))
+client_at w h c by x fits stands read = process_at w h c by x fits.first fits.last stands read

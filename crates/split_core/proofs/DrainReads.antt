@@ -1,33 +1,46 @@
 -- Whether a history is drained is read from the parts.
-use Rattle.std.proofs.Common.{◌≡◌, ℕ, zero, suc, ◌+◌, ◌<◌, ◌≤◌, ◌==◌, List, [], ◌∷◌, length, slice_get, Bool, true}
+use Rattle.std.proofs.Common.{◌≡◌, ℕ, zero, suc, ◌+◌, ◌<◌, ◌≤◌, ◌==◌, List, [], ◌∷◌, length, map, slice_get, Bool, true}
 use Rattle.std.proofs.Common.{false, not, ◌&&◌, count_by, Option, Some, None, is_some, refl, ap, sym, ◌∙◌, subst, arith}
-use Rattle.std.proofs.Common.{nat_cmp}
+use Rattle.std.proofs.Common.{inl, inr}
 use Rattle.std.specs.List.{range_with_len, list_all, list_any}
-use Rattle.std.proofs.lemmas.Bool.{and_from, and_parts, eqb-true}
+use Rattle.std.proofs.lemmas.Bool.{and_from, and_parts, or_cases, eqb-true, false_from_ne_true}
 use Rattle.std.proofs.Math.Bool.{and-false}
 use Rattle.std.specs.Prelude.{IfNone, IfSome}
-use Rattle.std.proofs.lemmas.List.{nil_from_length}
+use Rattle.std.proofs.lemmas.List.{nil_from_length, length-map}
 use Rattle.std.proofs.lemmas.List.Folds.{list_all_at}
 use Rattle.std.proofs.lemmas.List.FromFn.{get_or-range_with_len, length-range_with_len}
-use Rattle.fixed_places.specs.Tree.{IsLeast, HasNone}
+use Rattle.page_cache.specs.Held.{Held}
+use Rattle.page_cache.specs.Cached as cached
+use Rattle.page_cache.specs.Changes.{IsReady, IsFirstReady}
+use Rattle.split_types.specs.declared.ids.Serial.{Serial}
 use Rattle.split_types.specs.declared.buf.Buf.{Buf}
+use Rattle.split_types.specs.declared.buf.Buf.TheVariants.{Page, Bitmap, Dir, Inode}
+use Rattle.split_types.specs.declared.request.Request.{Request}
 use Rattle.split_types.specs.declared.workload.Workload.{Workload}
 use Rattle.split_types.specs.declared.event.Event.{Event}
+use Rattle.split_types.specs.declared.event.Event.TheVariants.{Put, Add}
+use Rattle.split_types.specs.History.{◌▹◌}
 use Rattle.split_types.specs.Requests.{is_numbered, requests, queued, in_flight, unfinished}
-use Rattle.split_types.specs.Pages.{is_live_page, is_dirty, is_busy, is_ready}
-use Rattle.split_types.specs.Hooks.{covers}
-use Rattle.split_types.specs.Workloads.{processes, all_pages}
-use Rattle.split_types.specs.Legal.{is_finished, is_drained}
+use Rattle.split_types.specs.Pages.{is_live_page, is_put_since, is_dirty, is_busy}
+use Rattle.split_types.specs.Hooks.{same_buf, covers}
+use Rattle.split_types.specs.Workloads.{processes, pages_in, all_pages}
+use Rattle.split_types.specs.Accepted.{IsAccepted}
+use Rattle.split_types.specs.Legal.{IsLegal, is_finished, is_drained}
 use Rattle.split_types.specs.Proving.Known.{Known}
-use Rattle.split_types.proofs.Shared.{list_any_here, find_there, some_at, length-all_pages, nothing_left, known}
+use Rattle.split_types.specs.Proving.Runs.{IsPageAt}
+use Rattle.split_types.proofs.Shared.{nothing_left, known, page_is, put_in_legal}
+use Rattle.split_types.proofs.Shared.{any_page}
+use Rattle.tag_table.specs.Tags.{tags_of}
+use Rattle.cause_set.specs.Tags.{Tags}
 use Rattle.split_core.specs.declared.plan.Plan.{Plan}
 use Rattle.split_core.specs.declared.parts.Parts.{Parts}
 use Rattle.split_core.specs.declared.note.clients.Clients.{Clients}
 use Rattle.split_core.specs.declared.note.pages.Pages.{Pages}
+use Rattle.split_core.specs.declared.note.dispatch.Dispatch.{Dispatch}
 use Rattle.split_core.specs.Clients.{ClientsStand}
 use Rattle.split_core.specs.Pages.{PagesStand}
+use Rattle.split_core.specs.Dispatch.{DispatchStands}
 use Rattle.split_core.specs.StandsFor.{StandsFor}
-use Rattle.split_core.proofs.NextReads.{is_not_ready, first_at}
 
 -- ---- calls
 all_of : (test : ℕ → Bool) (a n : ℕ) → ((i : ℕ) → i < n → test (a + i) ≡ true)
@@ -70,45 +83,105 @@ none_passes : {X : Type 0} (p : X → Bool) (xs : List X) → ((k : ℕ) (x : X)
 none_passes p [] none = refl
 none_passes p (x ∷ xs) none = let here = none 0 x refl in rw here (none_passes p xs (λ k y at. none (suc k) y at))
 
-none_dirty : (w : Workload) (p : Pages) (h : List Event) → PagesStand w p h → unfinished h ≡ [] → HasNone p.ready
-    → list_any (is_dirty w h) (all_pages w) ≡ false
-none_dirty w p h stands done none = none_passes (is_dirty w h) (all_pages w)
-    (λ k b at. clean b (is_not_ready w p h k b stands at (none k)))
-  where
-    clean : (b : Buf) → is_ready w h b ≡ false → is_dirty w h b ≡ false
-    clean b is = by_test (is_dirty w h b) (is_busy w h b) (none_busy w h b done) is
-      where
-        by_test : (dirty busy : Bool) → busy ≡ false → (dirty && not busy) ≡ false → dirty ≡ false
-        by_test true true e f = absurd (cc)
-        by_test true false e f = absurd (cc)
-        by_test false busy e f = refl
+-- a page that was put is one of a preset file
+put_within : (w : Workload) (h : List Event) (s : Serial) (g : ℕ) → IsAccepted w → IsLegal w h
+    → is_put_since h (Page s g) ≡ true → (s.0 < length w.files) × (g < pages_in w s.0)
+put_within w [] s g accepted legal put = absurd (cc)
+put_within w (h ▹ Put by t k from to fill) s g accepted legal put =
+    elim (or_cases (same_buf (Page s g) (Page t k)) (is_put_since h (Page s g)) put) [
+      | inl here ↦
+          (let is = put_in_legal w h by t k from to fill accepted legal
+          in let same = and_parts (s.0 == t.0) (g == k) here
+          in let file : s.0 ≡ t.0 = eqb-true s.0 t.0 same.0
+          in let page : g ≡ k = eqb-true g k same.1
+          in (
+            omega (arith, is.file, file),
+            subst (λ n. n < pages_in w s.0) (sym page) (subst (λ n. k < pages_in w n) (sym file) is.page),
+          ))
+      | inr old ↦ put_within w h s g accepted legal.1 old
+    ]
+put_within w (h ▹ Add by r) s g accepted legal put =
+    put_within w h s g accepted legal.1 (and_parts (not (covers r (Page s g))) (is_put_since h (Page s g)) put).1
+put_within w (h ▹ e) s g accepted legal put = put_within w h s g accepted legal.1 put
 
-some_dirty : (w : Workload) (p : Pages) (h : List Event) (at : ℕ) → PagesStand w p h → IsLeast nat_cmp p.ready at
-    → list_any (is_dirty w h) (all_pages w) ≡ true
-some_dirty w p h at stands least =
-    let first = first_at w p h at stands least in
-    let page = some_at (all_pages w) at (omega (arith, first.within, length-all_pages w)) in
-    let found = find_there (is_ready w h) (all_pages w) page.0 (first.first page.0 page.1) in
-    list_any_here (is_dirty w h) (all_pages w) at page.0 page.1
-    (and_parts (is_dirty w h page.0) (not (is_busy w h page.0)) found.2).0
+-- in the cache a page is ready where it is dirty and not busy
+ready_is : (x : Option Held) → cached.is_ready x ≡ (is_some (cached.tag_in x) && not (cached.is_busy x))
+ready_is None = refl
+ready_is (Some p) = refl
+
+ready_held : (x : Option Held) → cached.is_ready x ≡ true → is_some x ≡ true
+ready_held None is = absurd (cc)
+ready_held (Some p) is = refl
+
+none_dirty : (w : Workload) (p : Pages) (tags : Tags) (h : List Event) → PagesStand w p tags h → unfinished h ≡ []
+    → ((b : Buf) → IsReady p.cache b → ⊥) → list_any (is_dirty w h) (all_pages w) ≡ false
+none_dirty w p tags h stands done none = none_passes (is_dirty w h) (all_pages w) (λ k b at. clean b (page_is w k b at))
+  where
+    at_page : (s : Serial) (g : ℕ) → is_dirty w h (Page s g) ≡ true → ⊥
+    at_page s g dirty =
+        let x = cached.page_of p.cache (Page s g)
+        in none (Page s g)
+        (ready_is x
+        ∙ and_from (is_some (cached.tag_in x)) (not (cached.is_busy x)) (stands.dirty_are s g ∙ dirty)
+        (ap not (stands.busy_are s g ∙ none_busy w h (Page s g) done)))
+
+    clean : {k : ℕ} (b : Buf) → IsPageAt w k b → is_dirty w h b ≡ false
+    clean b is =
+        subst (λ x. is_dirty w h x ≡ false) (sym is.is)
+        (false_from_ne_true (is_dirty w h (Page is.serial is.page)) (λ dirty. at_page is.serial is.page dirty))
+
+some_dirty : (w : Workload) (p : Pages) (tags : Tags) (h : List Event) (b : Buf) → IsAccepted w → IsLegal w h
+    → PagesStand w p tags h → IsReady p.cache b → list_any (is_dirty w h) (all_pages w) ≡ true
+some_dirty w p tags h (Page s g) accepted legal stands ready =
+    let x = cached.page_of p.cache (Page s g)
+    in let both = and_parts (is_some (cached.tag_in x)) (not (cached.is_busy x)) (sym (ready_is x) ∙ ready)
+    in let dirty : is_dirty w h (Page s g) ≡ true = sym (stands.dirty_are s g) ∙ both.0
+    in let put = (and_parts (is_live_page w h (Page s g)) (is_put_since h (Page s g)) dirty).1
+    in let within = put_within w h s g accepted legal put
+    in any_page (is_dirty w h) w s g within.0 within.1 dirty
+some_dirty w p tags h Bitmap accepted legal stands ready =
+    absurd (stands.pages_alone Bitmap (ready_held (cached.page_of p.cache Bitmap) ready))
+some_dirty w p tags h (Dir k) accepted legal stands ready =
+    absurd (stands.pages_alone (Dir k) (ready_held (cached.page_of p.cache (Dir k)) ready))
+some_dirty w p tags h (Inode s) accepted legal stands ready =
+    absurd (stands.pages_alone (Inode s) (ready_held (cached.page_of p.cache (Inode s)) ready))
 
 -- ---- all together
 pub calls_left : (w : Workload) (plan : Plan) (p : Parts) (h : List Event) → StandsFor w plan p h
     → p.clients.finished < length w.procs → is_drained w h ≡ false
 calls_left w plan p h stands less = rw (one_left w p.clients h stands.parts.clients less) refl
 
-pub drained_by : (w : Workload) (plan : Plan) (p : Parts) (h : List Event) (o : Option ℕ) (r : Bool) → is_some o ≡ not r
-    → StandsFor w plan p h → length w.procs ≤ p.clients.finished
-    → (length p.flight.queued.items == 0 && length p.flight.sent.items == 0) ≡ true → IfNone o (HasNone p.pages.ready)
-    → IfSome o (IsLeast nat_cmp p.pages.ready) → r ≡ is_drained w h
+-- a request is queued or in flight
+some_left : (a b c d : Bool) → (b && c) ≡ false → (a && b && c && d) ≡ false
+some_left false b c d is = refl
+some_left true false c d is = refl
+some_left true true false d is = refl
+some_left true true true d is = absurd (cc)
+
+pub requests_left : (w : Workload) (d : Dispatch) (h : List Event) → DispatchStands d h
+    → (length d.queue.queued == 0 && length d.queue.in_flight == 0) ≡ false → is_drained w h ≡ false
+requests_left w d h stands some =
+    some_left (list_all (is_finished w h) (processes w)) (length (queued h) == 0) (length (in_flight h) == 0)
+    (not (list_any (is_dirty w h) (all_pages w)))
+    (ap (λ l. length l == 0 && length (in_flight h) == 0) (sym stands.queued_are)
+    ∙ ap (λ n. length d.queue.queued == 0 && n == 0)
+    (sym (ap length stands.sent_are) ∙ length-map d.queue.in_flight (λ (x : Request × ℕ). x.0))
+    ∙ some)
+
+pub drained_by : (w : Workload) (plan : Plan) (p : Parts) (h : List Event) (o : Option Buf) (r : Bool)
+    → is_some o ≡ not r → StandsFor w plan p h → length w.procs ≤ p.clients.finished
+    → (length p.dispatch.queue.queued == 0 && length p.dispatch.queue.in_flight == 0) ≡ true
+    → IfNone o ((b : Buf) → IsReady p.pages.cache b → ⊥) → IfSome o (IsFirstReady p.pages.cache) → r ≡ is_drained w h
 drained_by w plan p h o r is stands all empty none some =
-    let both = and_parts (length p.flight.queued.items == 0) (length p.flight.sent.items == 0) empty in
-    let queue : queued h ≡ [] = sym stands.parts.flight.queued_are
-    ∙ nil_from_length p.flight.queued.items (eqb-true (length p.flight.queued.items) 0 both.0) in
-    let flight : in_flight h ≡ [] = sym stands.parts.flight.sent_are
-    ∙ nil_from_length p.flight.sent.items (eqb-true (length p.flight.sent.items) 0 both.1) in
-    let done = none_unfinished w h (known w h stands.accepted stands.legal) queue flight in
-    by_first o is none some done (tests (all_finished w p.clients h stands.parts.clients all) queue flight)
+    let d = p.dispatch.queue
+    in let both = and_parts (length d.queued == 0) (length d.in_flight == 0) empty
+    in let queue : queued h ≡ [] =
+    sym stands.parts.dispatch.queued_are ∙ nil_from_length d.queued (eqb-true (length d.queued) 0 both.0)
+    in let flight : in_flight h ≡ [] =
+    sym stands.parts.dispatch.sent_are
+    ∙ ap (map (λ (x : Request × ℕ). x.0)) (nil_from_length d.in_flight (eqb-true (length d.in_flight) 0 both.1))
+    in let done = none_unfinished w h (known w h stands.accepted stands.legal) queue flight
+    in by_first o is none some done (tests (all_finished w p.clients h stands.parts.clients all) queue flight)
   where
     tests : list_all (is_finished w h) (processes w) ≡ true → queued h ≡ [] → in_flight h ≡ []
         → not (list_any (is_dirty w h) (all_pages w)) ≡ is_drained w h
@@ -118,10 +191,13 @@ drained_by w plan p h o r is stands all empty none some =
     flip true e = ap not (sym e)
     flip false e = ap not (sym e)
 
-    by_first : (o : Option ℕ) → is_some o ≡ not r → IfNone o (HasNone p.pages.ready)
-        → IfSome o (IsLeast nat_cmp p.pages.ready) → unfinished h ≡ []
+    by_first : (o : Option Buf) → is_some o ≡ not r → IfNone o ((b : Buf) → IsReady p.pages.cache b → ⊥)
+        → IfSome o (IsFirstReady p.pages.cache) → unfinished h ≡ []
         → not (list_any (is_dirty w h) (all_pages w)) ≡ is_drained w h → r ≡ is_drained w h
-    by_first None same none some done is = flip r same
-        ∙ sym (ap not (none_dirty w p.pages h stands.parts.pages done none)) ∙ is
-    by_first (Some at) same none some done is = flip r same
-        ∙ sym (ap not (some_dirty w p.pages h at stands.parts.pages some)) ∙ is
+    by_first None same none some done is =
+        flip r same ∙ sym (ap not (none_dirty w p.pages (tags_of p.tags) h stands.parts.pages done none)) ∙ is
+    by_first (Some b) same none some done is =
+        flip r same
+        ∙ sym (ap not (some_dirty w p.pages (tags_of p.tags) h b stands.accepted stands.legal stands.parts.pages
+        some.ready))
+        ∙ is

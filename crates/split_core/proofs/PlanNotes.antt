@@ -1,45 +1,20 @@
 -- What the workload alone fixes, as it is built and read.
 use Rattle.std.proofs.Common.{◌≡◌, ℕ, ◌+◌, ◌-◌, ◌<◌, ◌≤◌, List, [], ◌∷◌, ◌++◌, length, map, filter, take, None, true}
 use Rattle.std.proofs.Common.{false, Option, Some, refl, ap, sym, ◌∙◌, subst, arith, inl, inr, slice_get}
-use Rattle.std.proofs.Common.{slice_index_or, eq-eqb, ne_eqb, append_assoc, append-nil}
+use Rattle.std.proofs.Common.{slice_index_or, eq-eqb, ne_eqb, append-nil}
 use Rattle.std.specs.Prelude.{slice_set}
 use Rattle.std.specs.Option.{option_map}
 use Rattle.std.proofs.lemmas.Bool.{cases_eq}
 use Rattle.std.proofs.lemmas.Option.{slice_get-map, slice_get_read}
-use Rattle.std.proofs.lemmas.List.{map-append, get_or-set_same, get_or-set_other, get_or_read, length-map}
+use Rattle.std.proofs.lemmas.List.{map-append, get_or-set_same, get_or-set_other, get_or_read}
 use Rattle.std.proofs.lemmas.List.Elements.{filter-append}
-use Rattle.std.proofs.lemmas.List.FromFn.{map-range_with_len_more}
 use Rattle.split_types.specs.declared.ids.Pid.{Pid}
-use Rattle.split_types.specs.declared.ids.Serial.{Serial}
-use Rattle.split_types.specs.declared.buf.Buf.TheVariants.{Page}
 use Rattle.split_types.specs.declared.call.Call.{Call}
 use Rattle.split_types.specs.declared.workload.Workload.{Workload}
-use Rattle.split_types.specs.Parents.{pages_of}
-use Rattle.split_types.specs.Workloads.{is_call_of, calls_of, all_pages, preset_pages}
+use Rattle.split_types.specs.Workloads.{is_call_of, calls_of}
 use Rattle.split_types.proofs.Shared.{take_at_some}
-use Rattle.split_types.proofs.Shared.{length-all_pages}
-use Rattle.split_core.specs.declared.plan.FilePage.{FilePage}
 use Rattle.split_core.specs.declared.plan.Plan.{Plan}
-use Rattle.split_core.specs.Plans.{ArePlaces, buf_of, PlanStands}
-
--- ---- pages
--- one page more of a file
-pub pages_more : (start items new : List FilePage) (s : Serial) (k : ℕ) (x : FilePage)
-    → map buf_of items ≡ map buf_of start ++ pages_of s 0 k → new ≡ items ++ x ∷ [] → buf_of x ≡ Page s k
-    → map buf_of new ≡ map buf_of start ++ pages_of s 0 (k + 1)
-pages_more start items new s k x before more is =
-    ap (map buf_of) more ∙ map-append buf_of items (x ∷ []) ∙ ap (λ l. l ++ buf_of x ∷ []) before
-    ∙ ap (λ b. (map buf_of start ++ pages_of s 0 k) ++ b ∷ []) is
-    ∙ append_assoc (map buf_of start) (pages_of s 0 k) (Page s k ∷ [])
-    ∙ ap (λ l. map buf_of start ++ l) (sym (map-range_with_len_more (Page s) 0 k k (omega arith)))
-
-pub pages_long : (w : Workload) (p : Plan) → PlanStands w p → length p.pages.items ≡ preset_pages w
-pages_long w p stands = sym (length-map p.pages.items buf_of) ∙ ap length stands.pages_are ∙ length-all_pages w
-
-pub page_read : (w : Workload) (p : Plan) (at : ℕ) (x : FilePage) → PlanStands w p → slice_get p.pages.items at ≡ Some x
-    → slice_get (all_pages w) at ≡ Some (buf_of x)
-page_read w p at x stands is = ap (λ l. slice_get l at) (sym stands.pages_are) ∙ slice_get-map buf_of p.pages.items at
-    ∙ ap (option_map buf_of) is
+use Rattle.split_core.specs.Plans.{ArePlaces, PlanStands}
 
 -- ---- calls
 -- one call more, of this process or another

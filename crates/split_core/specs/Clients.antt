@@ -1,15 +1,18 @@
 -- What is kept of the processes has to do with a history.
-use Rattle.std.specs.Prelude.{◌≡◌, ℕ, ◌+◌, ◌<◌, ◌≤◌, List, length, slice_get, true, Option, Some, IsTrue, IsFalse}
-use Rattle.split_types.specs.declared.ids.Pid.{Pid}
-use Rattle.split_types.specs.declared.call.Call.{Call}
+use Rattle.std.specs.Prelude.{◌≡◌, ℕ, ◌+◌, ◌<◌, ◌≤◌, List, [], length, slice_get, false, IsTrue, IsFalse}
+use Rattle.std.specs.Prelude.{Option, Some, None}
+use Rattle.split_types.specs.declared.ids.Serial.{Serial}
 use Rattle.split_types.specs.declared.workload.Workload.{Workload}
 use Rattle.split_types.specs.declared.event.Event.{Event}
-use Rattle.split_types.specs.Calls.{returned, is_entered, is_admitted, moved}
-use Rattle.split_types.specs.Files.{bound_file}
+use Rattle.split_types.specs.Calls.{returned, is_entered, is_admitted, moved, call_of}
+use Rattle.split_types.specs.FileSizes.{working_file, size_at_admit}
+use Rattle.split_types.specs.FileMaps.{mapped_block}
+use Rattle.split_types.specs.Pieces.{Piece, got}
 use Rattle.split_types.specs.Legal.{is_finished}
-use Rattle.split_types.specs.Clients.{ClientState}
+use Rattle.split_core.specs.Awaits.{awaits}
 use Rattle.split_core.specs.declared.note.clients.Client.{Client}
 use Rattle.split_core.specs.declared.note.clients.Clients.{Clients}
+use Rattle.client_calls.specs.declared.Progress.{Progress}
 
 -- how far process p has come
 abbrev pub client_of : Workload → List Event → ℕ → Client
@@ -17,22 +20,11 @@ client_of w h p = record {
   returned = returned h p;
   entered = is_entered h p;
   admitted = is_admitted h p;
-  file = bound_file w h p;
+  file = working_file w h p;
+  size = size_at_admit w h p;
   moved = moved h p;
-}
-
--- what decides the next event of process p that has come so far, with this call under way or next; each call is
--- admitted
-abbrev pub seen : Client → Pid → Option Call → ClientState
-seen c p call = record {
-  by = p;
-  number = c.returned;
-  call = call;
-  entered = c.entered;
-  may_admit = true;
-  admitted = c.admitted;
-  file = c.file;
-  moved = c.moved;
+  got = got h p;
+  awaits = awaits h p;
 }
 
 pub record ClientsStand (w : Workload) (c : Clients) (h : List Event) : Type 0 where
@@ -41,3 +33,22 @@ pub record ClientsStand (w : Workload) (c : Clients) (h : List Event) : Type 0 w
   pub finished_most : c.finished ≤ length w.procs
   pub finished_are : (i : ℕ) → i < c.finished → IsTrue (is_finished w h (i + 1))
   pub next_is_left : c.finished < length w.procs → IsFalse (is_finished w h (c.finished + 1))
+
+-- how far process p has come, as the decision on its next event sees it; no read of its was done badly
+pub record IsProgress (w : Workload) (h : List Event) (p : ℕ) (x : Progress) : Type 0 where
+  pub call : x.call ≡ call_of w h p
+  pub number : x.number ≡ returned h p
+  pub entered : x.entered ≡ is_entered h p
+  pub admitted : x.admitted ≡ is_admitted h p
+  pub bound : x.bound ≡ working_file w h p
+  pub size : x.size_at_admit ≡ size_at_admit w h p
+  pub moved : x.moved ≡ moved h p
+  pub sum : x.sum ≡ got h p
+  pub well : x.bad_read ≡ false
+
+-- the block that the page of a piece of a file has at the start; none where the page has none, or the file or the piece
+-- isn't there
+abbrev pub block_on : Workload → Option Serial → Option Piece → Option ℕ
+block_on w None piece = None
+block_on w (Some s) None = None
+block_on w (Some s) (Some piece) = mapped_block w [] s.0 piece.page

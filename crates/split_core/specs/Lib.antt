@@ -2,10 +2,13 @@ pub mod Names
 pub mod Plans
 pub mod Fits
 pub mod Givens
+pub mod Awaits
 pub mod Clients
 pub mod Pages
 pub mod Book
-pub mod Flight
+pub mod Dispatch
+pub mod Takings
+pub mod Medium
 pub mod Served
 pub mod Time
 pub mod Money

@@ -1,59 +1,92 @@
--- What the pages that are kept have to do with a history.
-use Rattle.std.specs.Prelude.{◌≡◌, ℕ, ◌+◌, ◌<◌, ◌≤◌, List, [], ◌∷◌, length, slice_index_or, Bool, false, true, ◌&&◌}
-use Rattle.std.specs.Prelude.{nat_le, nat_lt, Option, Some, None, if◌then◌else◌}
+-- What the cache that is kept has to do with a history.
+use Rattle.std.specs.Prelude.{◌≡◌, ℕ, ◌+◌, ◌<◌, ◌≤◌, List, [], ◌∷◌, length, slice_get, count_by, is_some, Some, not}
+use Rattle.std.specs.Prelude.{if◌then◌else◌, IsTrue}
 use Rattle.split_types.specs.declared.ids.Serial.{Serial}
-use Rattle.split_types.specs.declared.buf.Buf.TheVariants as buf
+use Rattle.split_types.specs.declared.buf.Buf.{Buf}
+use Rattle.split_types.specs.declared.buf.Buf.TheVariants.{Page}
 use Rattle.split_types.specs.declared.workload.Workload.{Workload}
 use Rattle.split_types.specs.declared.event.Event.{Event}
 use Rattle.split_types.specs.Blame.{causes}
-use Rattle.split_types.specs.Sets.{union_of}
-use Rattle.split_types.specs.Pages.{is_busy, is_ready}
-use Rattle.split_types.specs.Workloads.{pages_in, page_index, preset_pages}
-use Rattle.split_core.specs.declared.note.pages.Page.{Page}
+use Rattle.split_types.specs.Pages.{is_dirty, is_busy}
+use Rattle.split_types.specs.Reads.{is_loading}
+use Rattle.split_types.specs.HeldPages.{is_held, held_pages, unsettled_pages}
+use Rattle.split_types.specs.Victims.{last_touch}
+use Rattle.split_types.specs.PageBytes.{page_bytes}
+use Rattle.split_types.specs.PagesInCache.{IsThere, pin_of}
+use Rattle.split_types.specs.Accepted.{IsAccepted}
+use Rattle.cause_set.specs.Tags.{Tags, held, same}
+use Rattle.page_cache.specs.Cached as cached
+use Rattle.page_cache.specs.Cached.{Cached}
+use Rattle.page_cache.specs.Changes.{bytes_in, written, KeepsTouches}
+use Rattle.std.specs.Option.{option_map}
+use Rattle.split_types.specs.declared.request.Request.{Request}
+use Rattle.split_types.specs.declared.event.Event.TheVariants.{Done}
+use Rattle.split_types.specs.Requests.{requests}
+use Rattle.split_types.specs.Hooks.{is_among}
+use Rattle.split_types.specs.Parents.{pages_of}
+use Rattle.split_core.specs.Fits.{Fits}
 use Rattle.split_core.specs.declared.note.pages.Pages.{Pages}
 
--- a page that nothing was put into and that is not busy, and one that was just taken
-abbrev pub clean_page : Page
-clean_page = record { causes = []; busy = false }
+-- what is held is what the history holds
+pub record CacheStands (w : Workload) (c : Cached) (tags : Tags) (h : List Event) : Type 0 where
+  pub limit : c.limit ≡ w.cache
+  pub held_are : (s : Serial) (g : ℕ) → is_some (cached.page_of c (Page s g)) ≡ is_held w h (Page s g)
+  pub loading_are : (s : Serial) (g : ℕ) → cached.is_loading (cached.page_of c (Page s g)) ≡ is_loading w h (Page s g)
+  pub dirty_are : (s : Serial) (g : ℕ)
+      → is_some (cached.tag_in (cached.page_of c (Page s g))) ≡ is_dirty w h (Page s g)
+  pub busy_are : (s : Serial) (g : ℕ) → cached.is_busy (cached.page_of c (Page s g)) ≡ is_busy w h (Page s g)
+  pub pins_are : (s : Serial) (g : ℕ) → IsTrue (is_held w h (Page s g))
+      → cached.pin_in (cached.page_of c (Page s g)) ≡ pin_of w h (Page s g)
+  pub causes_are : (s : Serial) (g : ℕ) → cached.causes_of tags c (Page s g) ≡ causes h (Page s g ∷ [])
+  pub bytes_are : (s : Serial) (g : ℕ) → IsThere w h (Page s g)
+      → bytes_in (cached.page_of c (Page s g)) ≡ page_bytes w h s g
+  -- of two pages the one that was touched earlier is the one of the lesser touch
+  pub order : (s t : Serial) (g k : ℕ) → IsThere w h (Page s g) → IsThere w h (Page t k)
+      → last_touch h (Page s g) < last_touch h (Page t k)
+      → cached.touch_of c (Page s g) < cached.touch_of c (Page t k)
+  pub held_counted : cached.held_in c ≡ length (held_pages w h)
+  pub unsettled_counted : cached.unsettled_in c ≡ length (unsettled_pages w h)
+  -- nothing but pages of files is held
+  pub pages_alone : (b : Buf) → IsTrue (is_some (cached.page_of c b)) → cached.IsDataPage b
 
-abbrev pub taken_page : Page
-taken_page = record { causes = []; busy = true }
+abbrev pub PagesStand : Workload → Pages → Tags → List Event → Type 0
+PagesStand w p tags h = CacheStands w p.cache tags h
 
--- the page at a place, and the key there
-abbrev pub page_at : List Page → ℕ → Page
-page_at pages at = slice_index_or pages at clean_page
+-- the tags that are in use are those of pages
+abbrev pub TagsStand : Pages → Tags → Type 0
+TagsStand p tags = (n : ℕ) → tags.uses n ≡ held same (cached.tags_in p.cache) n
 
-abbrev pub key_at : List (Option ℕ) → ℕ → Option ℕ
-key_at keys at = slice_index_or keys at None
+-- there is room for one more event
+pub record HasPagesRoom (p : Pages) (store : Tags) : Type 0 where
+  pub cache : 0 < p.cache.spare
+  pub tags : 16 ≤ store.spare
 
--- the place is one of n from this one on
-abbrev pub is_within : ℕ → ℕ → ℕ → Bool
-is_within at n k = nat_le at k && nat_lt k (at + n)
+-- before the event e: the cache stands for h, e fits, and there is room for it
+pub record PagesBefore (w : Workload) (p : Pages) (store : Tags) (h : List Event) (e : Event) : Type 0 where
+  pub accepted : IsAccepted w
+  pub stands : PagesStand w p store h
+  pub tags : TagsStand p store
+  pub fits : Fits w h e
+  pub room : HasPagesRoom p store
 
--- a page that one more process has put into
-abbrev pub put_page : ℕ → Page → Page
-put_page by x = record { causes = union_of (x.causes ∷ (by ∷ []) ∷ []); busy = x.busy }
+-- after it: the cache stands for the history with it
+pub record PagesAfter (w : Workload) (p : Pages) (store : Tags) (h : List Event) : Type 0 where
+  pub stands : PagesStand w p store h
+  pub tags : TagsStand p store
 
--- a page whose request is done
-abbrev pub released_page : Page → Page
-released_page x = record { causes = x.causes; busy = false }
+-- the request is the one that the event says is done
+abbrev pub IsDoneOf : List Event → Event → Request → Type 0
+IsDoneOf h (Done k id ok) r = slice_get (requests h) id.0 ≡ Some r
+IsDoneOf h e r = ⊥
 
--- the key of a page whose request is done, which had this key before
-abbrev pub released_key : ℕ → Page → Option ℕ → Option ℕ
-released_key at x key = if nat_lt 0 (length x.causes) then Some at else key
-
--- what is kept of page g of file s
-abbrev pub page_of : Workload → List Event → Serial → ℕ → Page
-page_of w h s g = record { causes = causes h (buf.Page s g ∷ []); busy = is_busy w h (buf.Page s g) }
-
-abbrev pub ready_key : Workload → List Event → Serial → ℕ → Option ℕ
-ready_key w h s g = if is_ready w h (buf.Page s g) then Some (page_index w s.0 g) else None
-
-pub record PagesStand (w : Workload) (p : Pages) (h : List Event) : Type 0 where
-  pub pages : length p.pages.items ≡ preset_pages w
-  pub places : preset_pages w ≤ length p.ready
-  pub pages_are : (s : Serial) (g : ℕ) → s.0 < length w.files → g < pages_in w s.0
-      → page_at p.pages.items (page_index w s.0 g) ≡ page_of w h s g
-  pub ready_are : (s : Serial) (g : ℕ) → s.0 < length w.files → g < pages_in w s.0
-      → key_at p.ready (page_index w s.0 g) ≡ ready_key w h s g
-  pub others : (i : ℕ) → preset_pages w ≤ i → key_at p.ready i ≡ None
+-- the n pages of a file from this one on aren't busy any more; those among them that aren't dirty are settled
+pub record Releases (old new : Cached) (s : Serial) (page n : ℕ) : Type 0 where
+  pub pages : (b : Buf) → cached.page_of new b
+      ≡ (if is_among s page n b then option_map written (cached.page_of old b) else cached.page_of old b)
+  pub count : cached.held_in new ≡ cached.held_in old
+  pub settled : cached.unsettled_in new
+      + count_by (λ b. not (is_some (cached.tag_in (cached.page_of old b)))) (pages_of s page n)
+      ≡ cached.unsettled_in old
+  pub tags : (m : ℕ) → held same (cached.tags_in new) m ≡ held same (cached.tags_in old) m
+  pub limit : new.limit ≡ old.limit
+  pub touches : KeepsTouches old new

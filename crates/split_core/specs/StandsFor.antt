@@ -1,7 +1,6 @@
 -- What contracts see of a core, and what its plan and its parts have to do with that.
 use Rattle.std.specs.Prelude.{◌<◌, List, vec_len}
 use Rattle.std.specs.Vec.{vec_capacity}
-use Rattle.std.specs.VecDeque.{deque_len, deque_capacity}
 use Rattle.split_types.specs.declared.workload.Workload.{Workload}
 use Rattle.split_types.specs.declared.event.Event.{Event}
 use Rattle.split_types.specs.Accepted.{IsAccepted}
@@ -10,9 +9,11 @@ use Rattle.split_core.specs.declared.plan.Plan.{Plan}
 use Rattle.split_core.specs.declared.parts.Parts.{Parts}
 use Rattle.split_core.specs.Plans.{PlanStands}
 use Rattle.split_core.specs.Clients.{ClientsStand}
-use Rattle.split_core.specs.Pages.{PagesStand}
+use Rattle.tag_table.specs.Tags.{tags_of}
+use Rattle.split_core.specs.Pages.{PagesStand, TagsStand, HasPagesRoom}
+use Rattle.split_core.specs.Medium.{MediumStands, HasMediumRoom}
 use Rattle.split_core.specs.Book.{BookStands}
-use Rattle.split_core.specs.Flight.{FlightStands}
+use Rattle.split_core.specs.Dispatch.{DispatchStands}
 use Rattle.split_core.specs.Served.{ServedStands}
 use Rattle.split_core.specs.Time.{TimeStands}
 use Rattle.split_core.specs.Money.{MoneyStands}
@@ -26,18 +27,22 @@ pub record Simulation : Type 0 where
 -- each part stands for the history h
 pub record PartsStand (w : Workload) (p : Parts) (h : List Event) : Type 0 where
   pub clients : ClientsStand w p.clients h
-  pub pages : PagesStand w p.pages h
+  pub pages : PagesStand w p.pages (tags_of p.tags) h
+  pub tags : TagsStand p.pages (tags_of p.tags)
+  pub medium : MediumStands w p.medium h
   pub book : BookStands p.book h
-  pub flight : FlightStands w p.flight h
+  pub dispatch : DispatchStands p.dispatch h
   pub service : ServedStands p.service h
   pub time : TimeStands p.time h
   pub money : MoneyStands w p.money h
   pub counts : CountsStand w p.counts h
 
--- there is room for one more request
+-- there is room for whatever one more event asks for
 pub record HasRoom (p : Parts) : Type 0 where
   pub book : vec_len p.book.entries < vec_capacity p.book.entries
-  pub queue : deque_len p.flight.queued < deque_capacity p.flight.queued
+  pub queue : 0 < p.dispatch.queue.spare
+  pub medium : HasMediumRoom p.medium
+  pub pages : HasPagesRoom p.pages (tags_of p.tags)
 
 -- so do all parts, and the history is a legal one of an accepted workload
 pub record StandsFor (w : Workload) (plan : Plan) (p : Parts) (h : List Event) : Type 0 where

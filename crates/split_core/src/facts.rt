@@ -80,10 +80,10 @@ impl Core {
         if (parts.clients.finished as usize) < self.workload.procs.len() {
             return false;
         }
-        if !parts.flight.is_empty() {
+        if !parts.dispatch.is_empty() {
             return false;
         }
-        parts.pages.ready.least().is_none()
+        parts.pages.cache.first_dirty().is_none()
     }
 
     /// What a report shows.

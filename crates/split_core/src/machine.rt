@@ -1,11 +1,15 @@
 //! The core, and what may be read of it.
-ghost use Rattle.std.specs.Prelude.{◌≡◌, [], IfOk};
+ghost use Rattle.std.specs.Prelude.{◌≡◌, ℕ, ◌<◌, ◌≤◌, [], length, IfOk};
 ghost use Rattle.split_types.specs.Accepted.{IsAccepted};
 ghost use Rattle.split_types.specs.Legal.{IsLegal};
+ghost use Rattle.split_types.specs.Workloads.{first_block};
+ghost use Rattle.split_types.specs.DiskBytes.{disk_block};
+ghost use Rattle.sim_disk.specs.Bytes.{block_at};
 
 use crate::parts::Parts;
 use crate::plan::Plan;
 use hook_events::History;
+use sim_disk::Disk;
 use split_types::Workload;
 use std::alloc::{AllocError, Global};
 use std::marker::Model;
@@ -17,8 +21,9 @@ const EVENTS_OF_A_CALL: u32 = 8;
 /// The stack of a workload: the events that it has made, and what it needs to make the next.
 ///
 /// Contracts see it as its workload and its history.
-#[derive(Debug, Drop)]
+#[derive(Drop)]
 pub struct Core {
+    pub(crate) alloc: Global,
     pub(crate) workload: Workload,
     pub(crate) plan: Plan,
     pub(crate) history: History,
@@ -55,6 +60,7 @@ impl Core {
         let plan = Plan::new(alloc, &w)?;
         let parts = Parts::new(alloc, &w, &plan)?;
         Ok(Core {
+            alloc,
             workload: w,
             plan,
             history,
@@ -67,6 +73,15 @@ impl Core {
         ensures { result.now ≡ self.now.workload }
     {
         &self.workload
+    }
+
+    /// The disk: each block of data holds what the last write of it that was done well carried.
+    pub fn disk(&self) -> &Disk
+        ensures size { length result.now.blocks ≡ self.now.workload.device }
+        ensures blocks { (x : ℕ) → first_block self.now.workload ≤ x → x < self.now.workload.device
+            → block_at result.now.blocks x ≡ disk_block self.now.workload self.now.history x }
+    {
+        &self.parts.medium.disk
     }
 
     /// The events that were made: a legal history.

@@ -1,104 +1,106 @@
 //! What each actor does next.
-ghost use Rattle.std.specs.Prelude.{◌≡◌, ◌≤◌, ◌<◌, ◌^◌, length, Some};
-ghost use Rattle.std.specs.Option.{option_copied};
+ghost use Rattle.std.specs.Prelude.{◌≡◌, ◌≤◌, ◌<◌, length, IfSome};
 ghost use Rattle.split_types.specs.History.{adds};
-ghost use Rattle.split_types.specs.Clients.{piece, next_of_admitted, next_of_client};
 ghost use Rattle.split_types.specs.Writeback.{next_serve, request_for, next_of_writeback};
 ghost use Rattle.split_types.specs.Next.{next_of_dispatcher, next_of_completion, next};
 ghost use Rattle.split_types.specs.Proving.Runs.{IsPresetRun};
-ghost use Rattle.split_core.specs.Clients.{seen};
+ghost use Rattle.client_calls.specs.View.{piece_left};
+ghost use Rattle.split_core.specs.Clients.{IsProgress, block_on};
 
 use crate::machine::Core;
-use crate::note::clients::Client;
 use crate::parts::FIRST_DATA_BLOCK;
+use client_calls::{ClientNext, ClientView, Progress, next_of, piece_left};
 use cost_model::cost;
-use split_types::{Actor, Call, Event, Pid, Reply, ReqId, ReqKind, Request, Run, Serial, Service};
-
-/// The bytes of a page.
-const PAGE: u64 = 4096;
+use split_types::{Actor, Buf, Event, Pid, ReqId, ReqKind, Request, Run, Service};
 
 /// How many pages writeback serves together at most.
 const LONGEST_RUN: u32 = 16;
 
-/// The piece of a write that begins at byte `at` of its file, with `left` bytes left: it ends with the page.
-fn piece(by: Pid, serial: Serial, at: u64, left: u64, fill: u8) -> Event
-    requires at { at < 2 ^ 44 }
-    requires left { left < 2 ^ 44 }
-    ensures { result ≡ piece by serial at left fill }
-{
-    let from = at % PAGE;
-    let to = PAGE.min(from + left);
-    Event::Put {
-        by,
-        serial,
-        page: (at / PAGE) as u32,
-        from: from as u32,
-        to: to as u32,
-        fill: u32::from(fill),
-    }
-}
-
-/// What comes next in an admitted call.
-fn next_of_admitted(client: &Client, by: Pid, call: &Call) -> Option<Event>
-    requires { client.now.moved < 2 ^ 32 }
-    ensures { result ≡ next_of_admitted (seen client.now by (Some call.now)) call.now }
-{
-    let Call::Write { off, len, fill, .. } = *call else {
-        return None;
-    };
-    let serial = client.file?;
-    let length = u64::from(len);
-    if client.moved < length {
-        let at = u64::from(off) + client.moved;
-        return Some(piece(by, serial, at, length - client.moved, fill));
-    }
-    Some(Event::Ret {
-        by,
-        reply: Reply::Done,
-    })
-}
-
-/// The next event of a process that came so far, with this call under way or next; none where no call is left.
-fn next_of_call(client: &Client, by: Pid, call: Option<&Call>) -> Option<Event>
-    requires { client.now.moved < 2 ^ 32 }
-    ensures { result ≡ next_of_client (seen client.now by (option_copied call.entry)) }
-{
-    let call = call?;
-    if !client.entered {
-        return Some(Event::Enter {
-            by,
-            k: client.returned,
-        });
-    }
-    if !client.admitted {
-        return Some(Event::Admit { by });
-    }
-    next_of_admitted(client, by, call)
-}
-
 impl Core {
-    /// The next event of a process.
+    /// How far a process has come, as the decision on its next event sees it.
+    fn progress(&self, p: Pid) -> Progress
+        requires first { 1 ≤ p.0 }
+        requires last { p.0 ≤ length self.now.workload.procs }
+        ensures { IsProgress self.now.workload self.now.history p.0 result }
+    {
+        let client = self.parts.clients.client(&self.workload, &self.history, p);
+        Progress {
+            call: self.plan.call(&self.workload, p, client.returned).copied(),
+            number: client.returned,
+            entered: client.entered,
+            admitted: client.admitted,
+            bound: client.file,
+            size_at_admit: client.size,
+            moved: client.moved as u32,
+            sum: client.got,
+            bad_read: false,
+        }
+    }
+
+    /// The block of the page of the first piece that is left of a call; none where no piece is left, or its page has
+    /// none.
+    fn block_of(&self, progress: &Progress) -> Option<u32>
+        requires { IfSome progress.now.bound (λ s. s.0 < length self.now.workload.files) }
+        ensures { result ≡ block_on self.now.workload progress.now.bound (piece_left progress.now) }
+    {
+        let serial = progress.bound?;
+        let piece = piece_left(progress)?;
+        if piece.page < self.workload.files.at(serial.0 as usize).pages {
+            Some(FIRST_DATA_BLOCK + self.plan.place(&self.workload, serial, piece.page) as u32)
+        } else {
+            None
+        }
+    }
+
+    /// The next event of a process, by what it sees.
+    fn next_by_view(&self, p: Pid) -> Option<Event>
+        requires first { 1 ≤ p.0 }
+        requires last { p.0 ≤ length self.now.workload.procs }
+        ensures { result ≡ next self.now.workload self.now.history (Actor.Client p) }
+    {
+        let progress = self.progress(p);
+        let view = ClientView {
+            cache: &self.parts.pages.cache,
+            places: self.workload.cache,
+            n: self.workload.procs.len() as u32,
+            block: self.block_of(&progress),
+            progress,
+            may_admit: true,
+            next_id: ReqId(self.parts.book.entries.len() as u32),
+        };
+        match next_of(p, &view) {
+            ClientNext::Act(e) => Some(e),
+            ClientNext::Nothing | ClientNext::Wait => None,
+        }
+    }
+
+    /// The next event of a process: none while it awaits a read.
     pub(crate) fn next_of_client(&self, p: Pid) -> Option<Event>
         requires first { 1 ≤ p.0 }
         requires last { p.0 ≤ length self.now.workload.procs }
         ensures { result ≡ next self.now.workload self.now.history (Actor.Client p) }
     {
         let client = self.parts.clients.client(&self.workload, &self.history, p);
-        let call = self.plan.call(&self.workload, p, client.returned);
-        next_of_call(client, p, call)
+        if client.awaits {
+            None
+        } else {
+            self.next_by_view(p)
+        }
     }
 
     /// The serve of a run from the first page that is ready.
     fn next_serve(&self) -> Option<Event>
         ensures { result ≡ next_serve self.now.workload self.now.history }
     {
-        let at = self.parts.pages.ready.least()?;
-        let first = self.plan.page(&self.workload, at);
-        let left = self.workload.files.at(first.serial.0 as usize).pages - first.page;
+        let pages = &self.parts.pages;
+        let Buf::Page(serial, page) = pages.cache.first_dirty()? else {
+            return None;
+        };
+        let left = self.workload.files.at(serial.0 as usize).pages - page;
         Some(Event::Serve {
-            serial: first.serial,
-            page: first.page,
-            n: self.parts.pages.ready_from(at, LONGEST_RUN.min(left)),
+            serial,
+            page,
+            n: pages.ready_from(serial, page, LONGEST_RUN.min(left)),
         })
     }
 
@@ -133,13 +135,11 @@ impl Core {
     fn next_of_dispatcher(&self) -> Option<Event>
         ensures { result ≡ next_of_dispatcher self.now.workload self.now.history }
     {
-        let flight = &self.parts.flight;
-        if flight.sent.len() >= self.workload.depth as usize {
+        let queue = &self.parts.dispatch.queue;
+        if queue.in_flight() >= self.workload.depth {
             return None;
         }
-        let Some(request) = flight.queued.front() else {
-            return None;
-        };
+        let request = queue.queued().first()?;
         Some(Event::Send {
             id: request.id,
             cost: cost(self.parts.time.head, request.first, request.n),
@@ -150,7 +150,11 @@ impl Core {
     fn next_of_completion(&self, k: u32) -> Option<Event>
         ensures { result ≡ next_of_completion self.now.history k }
     {
-        let request = self.parts.flight.sent.get(k as usize)?;
+        let queue = &self.parts.dispatch.queue;
+        if k >= queue.in_flight() {
+            return None;
+        }
+        let (request, _cost) = queue.peek_done(k);
         Some(Event::Done {
             k,
             id: request.id,

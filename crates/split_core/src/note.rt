@@ -3,7 +3,8 @@
 pub(crate) mod book;
 pub(crate) mod clients;
 pub(crate) mod counts;
-pub(crate) mod flight;
+pub(crate) mod dispatch;
+pub(crate) mod medium;
 pub(crate) mod money;
 pub(crate) mod pages;
 pub(crate) mod service;

@@ -6,28 +6,19 @@ ghost use Rattle.split_types.specs.Parents.{pages_of};
 ghost use Rattle.split_types.specs.Workloads.{calls_of, file_named, pages_in, page_index, pages_from, preset_pages};
 ghost use Rattle.split_types.specs.Workloads.{all_pages};
 ghost use Rattle.split_types.specs.Accepted.{IsAccepted};
-ghost use Rattle.split_core.specs.Plans.{ArePlaces, buf_of, PlanStands};
+ghost use Rattle.split_core.specs.Plans.{ArePlaces, PlanStands};
 
 use crate::names::{FileName, names_of};
 use fixed_places::Table;
 use split_types::{Call, List, Name, Pid, Preset, Serial, Workload};
 use std::alloc::{AllocError, Global};
 
-/// A page of a file.
-#[derive(Clone, Copy, Debug, PartialEq, Eq)]
-pub(crate) struct FilePage {
-    pub(crate) serial: Serial,
-    pub(crate) page: u32,
-}
-
 /// Where the calls of each process stand, and the pages of each file.
 #[derive(Debug, Drop)]
 pub(crate) struct Plan {
     /// The places of each process's calls among those of the workload.
     pub(crate) calls: Vec<List<u32>>,
-    /// All pages of the preset files, by rising file and page.
-    pub(crate) pages: Vec<FilePage>,
-    /// The place of each file's first page.
+    /// The place of each file's first page among the pages of all preset files.
     pub(crate) firsts: Vec<u32>,
     /// Which file has a name.
     pub(crate) names: Table<FileName>,
@@ -58,32 +49,6 @@ fn places_of_calls(alloc: Global, w: &Workload) -> Result<Vec<List<u32>>, AllocE
     Ok(calls)
 }
 
-/// Appends the pages of one file.
-fn add_file(pages: &mut Vec<FilePage>, serial: u32, count: u32) -> Result<(), AllocError>
-    ensures { OnOk result (map buf_of pages.new.items ≡ map buf_of pages.old.items
-        ++ pages_of (record { 0 = serial }) 0 count) }
-{
-    for page in 0..count {
-        pages.push(FilePage {
-            serial: Serial(serial),
-            page,
-        })?;
-    }
-    Ok(())
-}
-
-/// The pages of these files.
-fn pages_of_files(alloc: Global, files: &[Preset]) -> Result<Vec<FilePage>, AllocError>
-    requires { length files.now < 2 ^ 32 }
-    ensures { IfOk result (λ v. map buf_of v.items ≡ pages_from 0 files.now) }
-{
-    let mut pages = Vec::new(alloc);
-    for (i, file) in files.iter().enumerate() {
-        add_file(&mut pages, i as u32, file.pages)?;
-    }
-    Ok(pages)
-}
-
 /// The place of each file's first page.
 fn first_places(alloc: Global, files: &[Preset]) -> Result<Vec<u32>, AllocError>
     requires { sum_by (λ f. f.pages) files.now < 2 ^ 32 }
@@ -107,24 +72,13 @@ impl Plan {
         ensures { IfOk result (λ p. PlanStands w.now p) }
     {
         let calls = places_of_calls(alloc, w)?;
-        let pages = pages_of_files(alloc, w.files.as_slice())?;
         let firsts = first_places(alloc, w.files.as_slice())?;
         let names = names_of(alloc, w.files.as_slice())?;
         Ok(Plan {
             calls,
-            pages,
             firsts,
             names,
         })
-    }
-
-    /// The page at a place.
-    pub(crate) fn page(&self, w: &Workload, at: usize) -> FilePage
-        requires stands { PlanStands w.now self.now }
-        requires within { at < preset_pages w.now }
-        ensures { slice_get (all_pages w.now) at ≡ Some (buf_of result) }
-    {
-        self.pages[at]
     }
 
     /// The place of a page.

@@ -30,12 +30,18 @@ impl Core {
     {
         let place = self.history.len() as u32;
         self.history.room(1)?;
-        self.parts.room()?;
+        self.parts.room(self.alloc)?;
         let given = self
             .parts
             .given(&self.workload, &self.plan, &self.history, e);
-        self.parts
-            .note(&self.workload, &self.plan, &self.history, e, &given);
+        self.parts.note(
+            self.alloc,
+            &self.workload,
+            &self.plan,
+            &self.history,
+            e,
+            &given,
+        );
         let _ = self.history.push(*e);
         Ok(place)
     }

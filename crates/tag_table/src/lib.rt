@@ -8,7 +8,7 @@
 //! The contract is the one of every `TagStore`, to the word. Beyond it a table says that two numbers in use
 //! never have the same members, and `sets` is how many numbers are in use, and so how many different sets.
 //!
-//! The core keeps the tags of pages, buffers, transactions and proxies in one table.
+//! The core keeps the tags of its pages in one table.
 #![tactic(auto)]
 
 mod row;

@@ -4,10 +4,9 @@ ghost use Rattle.std.specs.Vec.{vec_capacity};
 ghost use Rattle.split_types.specs.declared.event.Event.{Event};
 ghost use Rattle.split_types.specs.History.{◌▹◌, adds};
 ghost use Rattle.split_core.specs.Fits.{Fits};
-ghost use Rattle.split_core.specs.Givens.{IsGiven};
+ghost use Rattle.split_core.specs.Takings.{IsTagged};
 ghost use Rattle.split_core.specs.Book.{IsEntry, BookStands};
 
-use crate::parts::Given;
 use cause_set::Causes;
 use hook_events::History;
 use split_types::{Event, ReqId, ReqState, Request, Workload};
@@ -54,17 +53,17 @@ impl Book {
         &self.entries[id.0 as usize]
     }
 
-    /// Takes note of an event.
-    pub(crate) fn note(&mut self, w: &Workload, h: &History, e: &Event, given: &Given)
+    /// Takes note of an event, with the tag of a request that it adds.
+    pub(crate) fn note(&mut self, w: &Workload, h: &History, e: &Event, tag: &Causes)
         requires stands { BookStands self.old h.now.events }
         requires fits { Fits w.now h.now.events e.now }
-        requires given { IsGiven w.now h.now.events e.now given.now }
+        requires tag { IsTagged h.now.events e.now tag.now }
         requires room { vec_len self.old.entries < vec_capacity self.old.entries }
         ensures { BookStands self.new (h.now.events ▹ e.now) }
     {
         match *e {
             Event::Add { req, .. } => self.entries.push_reserved(Entry {
-                tag: given.tag,
+                tag: *tag,
                 cost: 0,
                 request: req,
                 state: ReqState::Queued,

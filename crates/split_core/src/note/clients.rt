@@ -8,6 +8,7 @@ ghost use Rattle.split_types.specs.declared.event.Event.{Event};
 ghost use Rattle.split_types.specs.History.{◌▹◌};
 ghost use Rattle.split_types.specs.Hooks.{maker};
 ghost use Rattle.split_types.specs.Workloads.{calls_of};
+ghost use Rattle.split_core.specs.Awaits.{done_for};
 ghost use Rattle.split_core.specs.Fits.{Fits};
 ghost use Rattle.split_core.specs.Givens.{IsGiven};
 ghost use Rattle.split_core.specs.Plans.{PlanStands};
@@ -16,7 +17,7 @@ ghost use Rattle.split_core.specs.Clients.{client_of, ClientsStand};
 use crate::parts::Given;
 use crate::plan::Plan;
 use hook_events::History;
-use split_types::{Actor, Event, Pid, Serial, Workload};
+use split_types::{Actor, Event, Pid, ReqKind, Request, Serial, Workload};
 use std::alloc::{AllocError, Global};
 
 /// How far a process has come.
@@ -27,10 +28,14 @@ pub(crate) struct Client {
     /// Whether a call is under way, and whether it was admitted.
     pub(crate) entered: bool,
     pub(crate) admitted: bool,
-    /// The file that its admitted call works on.
+    /// The file that its admitted call works on, and the size that it had when the call was admitted.
     pub(crate) file: Option<Serial>,
-    /// The bytes that it put since it last entered a call.
+    pub(crate) size: u32,
+    /// The bytes that it put or got since it last entered a call, and the sum of those that it got.
     pub(crate) moved: u64,
+    pub(crate) got: u64,
+    /// Whether a read that it added is queued or in flight.
+    pub(crate) awaits: bool,
 }
 
 /// All processes.
@@ -51,7 +56,10 @@ impl Client {
             entered: false,
             admitted: false,
             file: None,
+            size: 0,
             moved: 0,
+            got: 0,
+            awaits: false,
         }
     }
 
@@ -67,12 +75,19 @@ impl Client {
             Event::Enter { .. } => {
                 self.entered = true;
                 self.moved = 0;
+                self.got = 0;
             }
             Event::Admit { .. } => {
                 self.admitted = true;
                 self.file = given.file;
+                self.size = given.size;
             }
             Event::Put { from, to, .. } => self.moved += u64::from(to - from),
+            Event::Get { from, to, sum, .. } => {
+                self.moved += u64::from(to - from);
+                self.got += sum;
+            }
+            Event::Add { .. } => self.awaits = true,
             Event::Ret { .. } => {
                 self.returned += 1;
                 self.entered = false;
@@ -81,6 +96,25 @@ impl Client {
             }
             _ => {}
         }
+    }
+}
+
+/// The process for which a request reads that is done now.
+fn reader_of_done(w: &Workload, h: &History, e: &Event, given: &Given) -> Option<Pid>
+    requires given { IsGiven w.now h.now.events e.now given.now }
+    ensures { result ≡ done_for h.now.events e.now }
+{
+    match (*e, given.request) {
+        (
+            Event::Done { .. },
+            Some(
+                Request {
+                    kind: ReqKind::Read(by, ..),
+                    ..
+                },
+            ),
+        ) => Some(by),
+        _ => None,
     }
 }
 
@@ -151,6 +185,8 @@ impl Clients {
             if let Event::Ret { .. } = *e {
                 self.finished = finished_from(w, plan, &self.clients, self.finished);
             }
+        } else if let Some(by) = reader_of_done(w, h, e, given) {
+            self.clients[(by.0 - 1) as usize].awaits = false;
         }
     }
 }

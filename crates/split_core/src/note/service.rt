@@ -5,7 +5,7 @@ ghost use Rattle.split_core.specs.Fits.{Fits};
 ghost use Rattle.split_core.specs.Served.{ServedStands};
 
 use hook_events::History;
-use split_types::{Event, Run, Service, Workload};
+use split_types::{Actor, Event, Run, Service, Workload};
 
 #[derive(Clone, Copy, Debug)]
 pub(crate) struct Served {
@@ -34,7 +34,7 @@ impl Served {
                 page,
                 n,
             }),
-            Event::Add { .. } => self.service = Service::Idle,
+            Event::Add { by: Actor::Wb, .. } => self.service = Service::Idle,
             _ => {}
         }
     }

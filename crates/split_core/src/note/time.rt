@@ -31,7 +31,9 @@ impl Time {
         ensures { TimeStands self.new (h.now.events ▹ e.now) }
     {
         match *e {
-            Event::Send { .. } => self.head = given.end,
+            Event::Send { .. } => if let Some(request) = given.request {
+                self.head = request.first + request.n
+            },
             Event::Done { .. } => self.clock += given.cost,
             _ => {}
         }

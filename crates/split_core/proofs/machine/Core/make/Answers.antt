@@ -7,9 +7,9 @@ use Rattle.split_types.specs.History.{◌▹◌}
 use Rattle.split_types.specs.Hooks.{maker}
 use Rattle.split_types.specs.Workloads.{bound}
 use Rattle.split_types.specs.Next.{next}
-use Rattle.split_types.proofs.Shared.{stays_below}
+use Rattle.split_types.proofs.Shared.{short, stays_below}
 use Rattle.split_core.specs.StandsFor.{Simulation}
-use Rattle.split_core.proofs.FitsLaws.{short, fits}
+use Rattle.split_core.proofs.FitsLaws.{fits}
 use Rattle.split_core.proofs.machine.Core.make.Goals as goal
 
 pub overflow_cast-place : goal.overflow_cast-place

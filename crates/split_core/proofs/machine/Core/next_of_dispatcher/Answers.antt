@@ -1,10 +1,9 @@
 -- The oldest queued request is sent.
-use Rattle.std.proofs.Common.{List, slice_index_or, refl, ◌<◌, ◌≡◌, ◌∙◌, sym, arith, ap, length, slice_get, Some}
-use Rattle.std.proofs.lemmas.Option.{slice_get_read}
+use Rattle.std.proofs.Common.{List, ◌≡◌, ◌∙◌, sym, arith, ap, length, slice_get, Some}
+use Rattle.std.proofs.lemmas.List.{length-map}
 use Rattle.split_types.specs.declared.event.Event.TheVariants.{Send}
 use Rattle.split_types.specs.CostAndClock.{cost_at}
 use Rattle.split_types.specs.Next.{next_of_dispatcher}
-use Rattle.std.specs.VecDeque.{deque_len}
 use Rattle.split_types.specs.declared.request.Request.{Request}
 use Rattle.split_types.specs.declared.workload.Workload.{Workload}
 use Rattle.split_types.specs.declared.event.Event.{Event}
@@ -14,19 +13,18 @@ use Rattle.split_core.specs.StandsFor.{Simulation, StandsFor}
 use Rattle.split_core.proofs.NextReads.{IsFirst, first_queued, sends_first}
 use Rattle.split_core.proofs.machine.Core.next_of_dispatcher.Goals as goal
 
-is_first : (w : Workload) (p : Parts) (plan : Plan) (h : List Event) (r : Request) → StandsFor w plan p h
-    → 0 < deque_len p.flight.queued → r ≡ slice_index_or p.flight.queued.items 0 r → IsFirst w h r
-is_first w p plan h r stands some at =
-    let here = slice_get_read p.flight.queued.items (deque_len p.flight.queued) 0 r p.flight.queued.ok.0 some at in
-    first_queued w h r stands.accepted stands.legal (ap (λ l. slice_get l 0) (sym stands.parts.flight.queued_are)
-    ∙ here)
+is_first : (w : Workload) (p : Parts) (plan : Plan) (h : List Event) (r : Request) (rs : List Request)
+    → StandsFor w plan p h → rs ≡ p.dispatch.queue.queued → Some r ≡ slice_get rs 0 → IsFirst w h r
+is_first w p plan h r rs stands are at =
+    first_queued w h r stands.accepted stands.legal
+    (ap (λ l. slice_get l 0) (sym (are ∙ stands.parts.dispatch.queued_are)) ∙ sym at)
 
 pub cost-requires-clause-head : goal.cost-requires-clause-head
 cost-requires-clause-head c = let i = c.self.inside in
     omega (
       arith,
-      (is_first i.workload i.parts i.plan i.history.events c.in-Some.request.now c.self.invariant
-          (c.in-Some.ensures.variant.0 refl) c.in-Some.ensures.lookup).head_most,
+      (is_first i.workload i.parts i.plan i.history.events c.in_ok-request.request.now c.queued.result.now
+          c.self.invariant c.queued.ensures.requests c.in_ok-request.ensures.value).head_most,
       c.self.invariant.parts.time.head_is,
     )
 
@@ -34,31 +32,31 @@ pub cost-requires-clause-first : goal.cost-requires-clause-first
 cost-requires-clause-first c = let i = c.self.inside in
     omega (
       arith,
-      (is_first i.workload i.parts i.plan i.history.events c.in-Some.request.now c.self.invariant
-          (c.in-Some.ensures.variant.0 refl) c.in-Some.ensures.lookup).end_most,
+      (is_first i.workload i.parts i.plan i.history.events c.in_ok-request.request.now c.queued.result.now
+          c.self.invariant c.queued.ensures.requests c.in_ok-request.ensures.value).end_most,
     )
 
 pub cost-requires-clause-n : goal.cost-requires-clause-n
 cost-requires-clause-n c = let i = c.self.inside in
     omega (
       arith,
-      (is_first i.workload i.parts i.plan i.history.events c.in-Some.request.now c.self.invariant
-          (c.in-Some.ensures.variant.0 refl) c.in-Some.ensures.lookup).end_most,
+      (is_first i.workload i.parts i.plan i.history.events c.in_ok-request.request.now c.queued.result.now
+          c.self.invariant c.queued.ensures.requests c.in_ok-request.ensures.value).end_most,
     )
 
 pub returns : goal.returns
 returns c =
     let i = c.self.inside in
-    let r = c.in-Some.request.now in
+    let r = c.in_ok-request.request.now in
     ap (λ n. Some (Send r.id n)) (c.cost.ensures ∙ ap (λ n. cost_at n r.first r.n) c.self.invariant.parts.time.head_is)
     ∙ sym (sends_first i.workload i.history.events r
-    (is_first i.workload i.parts i.plan i.history.events c.in-Some.request.now c.self.invariant
-    (c.in-Some.ensures.variant.0 refl) c.in-Some.ensures.lookup)
+    (is_first i.workload i.parts i.plan i.history.events c.in_ok-request.request.now c.queued.result.now
+    c.self.invariant c.queued.ensures.requests c.in_ok-request.ensures.value)
     (omega (
       arith,
-      c.if-len-self.false,
-      c.len.ensures,
-      i.parts.flight.sent.ok.0,
-      ap length c.self.invariant.parts.flight.sent_are,
+      c.if-in_flight-self.false,
+      c.in_flight.ensures,
+      length-map i.parts.dispatch.queue.in_flight (λ x. x.0),
+      ap length c.self.invariant.parts.dispatch.sent_are,
     )))
     ∙ ap (λ (v : Simulation). next_of_dispatcher v.workload v.history) c.self.view_is

@@ -1,51 +1,49 @@
 -- The first page that is ready, and the run from there on.
-use Rattle.std.proofs.Common.{arith, sym, ◌∙◌, ap, Some, None}
-use Rattle.split_types.specs.declared.event.Event.TheVariants.{Serve}
-use Rattle.split_types.specs.Writeback.{next_serve, serve_from}
+use Rattle.std.proofs.Common.{arith, ◌∙◌, ap}
+use Rattle.split_types.specs.Writeback.{next_serve}
+use Rattle.tag_table.specs.Tags.{tags_of}
 use Rattle.split_core.specs.StandsFor.{Simulation}
-use Rattle.split_core.specs.Plans.{buf_of}
-use Rattle.split_core.proofs.NextReads.{none_ready, first_at, page_parts, pages_are, rest_within, run_read}
+use Rattle.split_core.proofs.NextReads.{pages_are}
+use Rattle.split_core.proofs.NextReadsServes.{first_is_page, found_at, serves, serves_none}
 use Rattle.split_core.proofs.machine.Core.next_serve.Goals as goal
 
-pub returns-in_err-at : goal.returns-in_err-at
-returns-in_err-at c =
+pub returns-in_err-serial : goal.returns-in_err-serial
+returns-in_err-serial c =
     let i = c.self.inside in
-    let none = none_ready i.workload i.parts.pages i.history.events c.self.invariant.parts.pages
-    c.in_err-at.ensures.none in
-    c.from_residual.ensures ∙ ap (λ o. elim o [ None ↦ None | Some b ↦ serve_from i.workload i.history.events b ])
-    (sym none)
+    c.from_residual.ensures
+    ∙ serves_none i.workload i.parts.pages (tags_of i.parts.tags) i.history.events c.self.invariant.parts.pages
+    c.in_err-serial.ensures.none
     ∙ ap (λ (v : Simulation). next_serve v.workload v.history) c.self.view_is
 
+pub returns-in_default : goal.returns-in_default
+returns-in_default c =
+    let page = first_is_page c.self.inside.parts.pages.cache c.in_ok-serial.field-0 c.in_ok-serial.ensures.first in
+    absurd (c.in_default.not-Page page.0 page.1 page.2)
+
 pub at-requires : goal.at-requires
-at-requires c = (page_parts c.self.inside.workload c.in_ok-at.at c.page-first.result.serial c.page-first.result.page
-    c.page-first.ensures).0
+at-requires c =
+    let i = c.self.inside in
+    (found_at i.workload i.parts.pages (tags_of i.parts.tags) i.history.events c.in_ok-serial.field-0 c.in-Page.serial
+    c.in-Page.page c.self.invariant.accepted c.self.invariant.legal c.self.invariant.parts.pages
+    c.in_ok-serial.ensures.first c.in-Page.is).file
 
 pub overflow_sub-left : goal.overflow_sub-left
 overflow_sub-left c =
-    let w = c.self.inside.workload in
-    let page = page_parts w c.in_ok-at.at c.page-first.result.serial c.page-first.result.page c.page-first.ensures in
-    omega (arith, page, pages_are w c.page-first.result.serial.0 c.at.result.now c.at.ensures)
-
-pub ready_from-requires-clause-within : goal.ready_from-requires-clause-within
-ready_from-requires-clause-within c =
     let i = c.self.inside in
-    let first = c.page-first.result in
-    let rest = rest_within i.workload i.parts.pages i.history.events c.in_ok-at.at first.serial first.page
-    c.self.invariant.parts.pages c.page-first.ensures in
-    omega (arith, rest, pages_are i.workload first.serial.0 c.at.result.now c.at.ensures, c.min.ensures)
+    let found = found_at i.workload i.parts.pages (tags_of i.parts.tags) i.history.events c.in_ok-serial.field-0
+    c.in-Page.serial c.in-Page.page c.self.invariant.accepted c.self.invariant.legal c.self.invariant.parts.pages
+    c.in_ok-serial.ensures.first c.in-Page.is in
+    omega (arith, found.page, pages_are i.workload c.in-Page.serial.0 c.at.result.now c.at.ensures)
 
 pub returns : goal.returns
 returns c =
     let i = c.self.inside in
     let stands = c.self.invariant.parts.pages in
-    let first = c.page-first.result in
-    let pages = pages_are i.workload first.serial.0 c.at.result.now c.at.ensures in
-    let found = (first_at i.workload i.parts.pages i.history.events c.in_ok-at.at stands c.in_ok-at.ensures.least).first
-    (buf_of first) c.page-first.ensures in
-    let long = run_read i.workload i.parts.pages i.history.events c.in_ok-at.at c.ready_from.result first.serial
-    first.page stands c.page-first.ensures
-    (omega (arith, pages, c.min.ensures, c.ready_from.ensures.most)) c.ready_from.ensures.ready
-    (λ lt. c.ready_from.ensures.end (omega (arith, lt, pages, c.min.ensures))) in
-    ap (λ n. Some (Serve first.serial first.page n)) (sym long)
-    ∙ ap (λ o. elim o [ None ↦ None | Some b ↦ serve_from i.workload i.history.events b ]) (sym found)
+    let found = found_at i.workload i.parts.pages (tags_of i.parts.tags) i.history.events c.in_ok-serial.field-0
+    c.in-Page.serial c.in-Page.page c.self.invariant.accepted c.self.invariant.legal stands
+    c.in_ok-serial.ensures.first c.in-Page.is in
+    let pages = pages_are i.workload c.in-Page.serial.0 c.at.result.now c.at.ensures in
+    serves i.workload i.parts.pages (tags_of i.parts.tags) i.history.events c.in-Page.serial c.in-Page.page
+    c.ready_from.result stands found (omega (arith, pages, c.min.ensures, c.ready_from.ensures.most))
+    c.ready_from.ensures.ready (λ lt. c.ready_from.ensures.end (omega (arith, lt, pages, c.min.ensures)))
     ∙ ap (λ (v : Simulation). next_serve v.workload v.history) c.self.view_is

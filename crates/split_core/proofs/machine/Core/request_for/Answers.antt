@@ -12,8 +12,8 @@ place_small c =
     omega (
       arith,
       c.place.ensures,
-      block_small c.self.inside.workload c.args.run.serial c.args.run.page c.args.run.n
-          c.self.invariant.accepted run,
+      block_small c.self.inside.workload c.args.run.serial c.args.run.page
+          c.self.invariant.accepted run.file (omega (arith, run.some, run.within)),
     )
 
 pub overflow_cast-result : goal.overflow_cast-result

@@ -1,0 +1,37 @@
+-- What stands after each kind of event.
+use Rattle.tag_table.specs.Tags.{tags_of}
+use Rattle.split_core.proofs.PageKinds.{after_ret, after_get, evicts, after_evict}
+use Rattle.split_core.proofs.PageQuiet.{pages_other}
+use Rattle.split_core.proofs.note.pages.Pages.follow.Goals as goal
+
+pub returns-in-Ret : goal.returns-in-Ret
+returns-in-Ret c =
+    after_ret c.args.w.now c.args.h.now.events c.args.e.now c.in-Ret.by c.in-Ret.reply c.args.self.now _
+    (tags_of c.args.tags.now) c.in-Ret.is c.requires.before c.unpin-in-Ret.ensures.pages c.unpin-in-Ret.ensures.tags
+
+pub returns-in-Get : goal.returns-in-Get
+returns-in-Get c =
+    after_get c.args.w.now c.args.h.now.events c.args.e.now c.in-Get.by c.in-Get.serial c.in-Get.page c.in-Get.from
+    c.in-Get.to c.in-Get.sum c.args.self.now _ c.get-sum.new.self (tags_of c.args.tags.now) c.in-Get.is
+    c.requires.before c.get-sum.ensures.rest c.get-sum.ensures.touched c.unpin.ensures.pages c.unpin.ensures.tags
+
+pub evict-requires : goal.evict-requires
+evict-requires c =
+    evicts c.args.w.now c.args.h.now.events c.args.e.now c.in-Evict.by c.in-Evict.serial c.in-Evict.page
+    c.args.self.now (tags_of c.args.tags.now) c.in-Evict.is c.requires.before
+
+pub returns-in-Evict : goal.returns-in-Evict
+returns-in-Evict c =
+    after_evict c.args.w.now c.args.h.now.events c.args.e.now c.in-Evict.by c.in-Evict.serial c.in-Evict.page
+    c.args.self.now _ (tags_of c.args.tags.now) c.in-Evict.is c.requires.before c.evict.ensures.page
+    c.evict.ensures.touches
+
+pub returns-in_default : goal.returns-in_default
+returns-in_default c =
+    let b = c.requires.before
+    in record {
+      stands = pages_other c.args.w.now c.args.h.now.events c.args.e.now c.args.self.now.cache
+          (tags_of c.args.tags.now) b.accepted b.fits.legal b.fits.kind c.in_default.not-Put c.in_default.not-Get
+          c.in_default.not-Ret c.in_default.not-Evict c.requires.other c.in_default.not-Done b.stands;
+      tags = b.tags;
+    }
