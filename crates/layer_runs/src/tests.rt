@@ -10,6 +10,7 @@ mod disk_images;
 mod disk_writes;
 mod fifo_choices;
 mod files;
+mod next_events;
 mod places;
 mod proxy_causes;
 mod request_queue;

@@ -82,6 +82,17 @@ fn finished<L: Ledger>(
     Ok((facts.clock, core.workload().version))
 }
 
+/// How many blocks the disk of a new core has.
+fn blocks(alloc: Global) -> Result<u32, AllocError> {
+    Ok(before_any_event(alloc)?.disk().blocks())
+}
+
+#[test]
+fn a_core_has_a_disk(rt: HostRuntime) -> Result<(), Fail> {
+    assert_eq!(rt; blocks(rt.alloc())?, 1024);
+    Ok(())
+}
+
 /// The same, of a new core.
 fn played<L: Ledger>(alloc: Global, blank: Blank) -> Result<(u64, u32), AllocError>
     requires name { blank.name ≡ L.name }

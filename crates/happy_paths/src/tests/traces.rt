@@ -259,7 +259,7 @@ const BEHIND: [(u32, Cause, &str); 15] = [
     (7, Cause::Range, "go dn16 1\n"),
     (7, Cause::Form, "events 0\n"),
     (7, Cause::Cut, "end"),
-    (7, Cause::NotBuilt, "file a 3 0\n|fail 0\n"),
+    (7, Cause::NotBuilt, "fail 0\n"),
     (
         8,
         Cause::Cut,

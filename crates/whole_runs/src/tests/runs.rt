@@ -7,7 +7,7 @@ pub(super) struct Run {
     pub(super) output: &'static str,
 }
 
-pub(super) const RUNS: [Run; 8] = [
+pub(super) const RUNS: [Run; 11] = [
     Run {
         shows: "between two writers",
         input: "splitload 1\n\
@@ -143,6 +143,165 @@ pub(super) const RUNS: [Run; 8] = [
          made dn 1\n\
          made tk 0\n\
          clock 52\n\
+         end\n",
+    },
+    Run {
+        shows: "read through a small cache",
+        input: "splitload 1\n\
+         device 1024\n\
+         cache 4\n\
+         depth 2\n\
+         sched fifo\n\
+         account 1 0 0\n\
+         proc 1 1 0\n\
+         proc 1 1 0\n\
+         file log 5 65\n\
+         file note 1 66\n\
+         call 1 write log 0 8192 67\n\
+         call 2 read log 4096 12288\n\
+         call 2 write note 100 8 68\n\
+         end\n",
+        output: "events 33\n\
+         enter c1 0\n\
+         admit c1\n\
+         put c1 0 0 0 4096 67\n\
+         put c1 0 1 0 4096 67\n\
+         ret c1 done\n\
+         enter c2 0\n\
+         admit c2\n\
+         get c2 0 1 0 4096 274432\n\
+         add c2 read 528 1 0 2\n\
+         serve wb 0 0 2\n\
+         add wb pages 526 2 0 0\n\
+         send dq 0 52\n\
+         send dq 1 24\n\
+         done dn0 0 ok\n\
+         get c2 0 2 0 4096 266240\n\
+         add c2 read 529 1 0 3\n\
+         send dq 2 22\n\
+         done dn0 1 ok\n\
+         done dn0 2 ok\n\
+         get c2 0 3 0 4096 266240\n\
+         ret c2 count 12288 806912\n\
+         enter c2 1\n\
+         admit c2\n\
+         evict c2 0 0\n\
+         add c2 read 531 1 1 0\n\
+         send dq 3 22\n\
+         done dn0 3 ok\n\
+         put c2 1 0 100 108 68\n\
+         ret c2 done\n\
+         serve wb 1 0 1\n\
+         add wb pages 531 1 1 0\n\
+         send dq 4 22\n\
+         done dn0 4 ok\n\
+         report 1\n\
+         requests 5\n\
+         req 0 read 528 1 done 52 2:52\n\
+         req 1 pages 526 2 done 24 1:24\n\
+         req 2 read 529 1 done 22 2:22\n\
+         req 3 read 531 1 done 22 2:22\n\
+         req 4 pages 531 1 done 22 2:22\n\
+         proc 1 billed 24\n\
+         proc 2 billed 118\n\
+         made c1 5\n\
+         made c2 14\n\
+         made wb 4\n\
+         made cm 0\n\
+         made dq 5\n\
+         made dn 5\n\
+         made tk 0\n\
+         clock 142\n\
+         end\n",
+    },
+    Run {
+        shows: "one page at a time is dirty",
+        input: "splitload 1\n\
+         device 1024\n\
+         cache 2\n\
+         depth 1\n\
+         sched fifo\n\
+         account 1 0 0\n\
+         proc 1 1 0\n\
+         file a 3 65\n\
+         call 1 write a 0 12288 66\n\
+         end\n",
+        output: "events 19\n\
+         enter c1 0\n\
+         admit c1\n\
+         put c1 0 0 0 4096 66\n\
+         serve wb 0 0 1\n\
+         add wb pages 526 1 0 0\n\
+         send dq 0 52\n\
+         done dn0 0 ok\n\
+         put c1 0 1 0 4096 66\n\
+         serve wb 0 1 1\n\
+         add wb pages 527 1 0 1\n\
+         send dq 1 2\n\
+         done dn0 1 ok\n\
+         evict c1 0 0\n\
+         put c1 0 2 0 4096 66\n\
+         ret c1 done\n\
+         serve wb 0 2 1\n\
+         add wb pages 528 1 0 2\n\
+         send dq 2 2\n\
+         done dn0 2 ok\n\
+         report 1\n\
+         requests 3\n\
+         req 0 pages 526 1 done 52 1:52\n\
+         req 1 pages 527 1 done 2 1:2\n\
+         req 2 pages 528 1 done 2 1:2\n\
+         proc 1 billed 56\n\
+         made c1 7\n\
+         made wb 6\n\
+         made cm 0\n\
+         made dq 3\n\
+         made dn 3\n\
+         made tk 0\n\
+         clock 56\n\
+         end\n",
+    },
+    Run {
+        shows: "a part of a page is put, and read back",
+        input: "splitload 1\n\
+         device 1024\n\
+         cache 64\n\
+         depth 1\n\
+         sched fifo\n\
+         account 1 0 0\n\
+         proc 1 1 0\n\
+         file a 1 65\n\
+         call 1 write a 10 5 66\n\
+         call 1 read a 0 20\n\
+         end\n",
+        output: "events 15\n\
+         enter c1 0\n\
+         admit c1\n\
+         add c1 read 526 1 0 0\n\
+         send dq 0 52\n\
+         done dn0 0 ok\n\
+         put c1 0 0 10 15 66\n\
+         ret c1 done\n\
+         enter c1 1\n\
+         admit c1\n\
+         get c1 0 0 0 20 1305\n\
+         ret c1 count 20 1305\n\
+         serve wb 0 0 1\n\
+         add wb pages 526 1 0 0\n\
+         send dq 1 22\n\
+         done dn0 1 ok\n\
+         report 1\n\
+         requests 2\n\
+         req 0 read 526 1 done 52 1:52\n\
+         req 1 pages 526 1 done 22 1:22\n\
+         proc 1 billed 74\n\
+         made c1 9\n\
+         made wb 2\n\
+         made cm 0\n\
+         made dq 2\n\
+         made dn 2\n\
+         made tk 0\n\
+         clock 74\n\
          end\n",
     },
     Run {
