@@ -1,12 +1,12 @@
 -- What holds of a tree of least keys.
-use Rattle.std.proofs.Common.{◌≡◌, ◌≢◌, ℕ, zero, suc, ◌+◌, ◌*◌, ◌/◌, ◌<◌, ◌≤◌, List, length, get_or, set, drop, Option, Some, None, IsSome, arith, refl, sym, subst, inl, inr, get_or-set_other, get_or-set_same}
+use Rattle.std.proofs.Common.{◌≡◌, ◌≢◌, ℕ, zero, suc, ◌+◌, ◌*◌, ◌/◌, ◌<◌, ◌≤◌, List, length, get_or, set, drop, Option, Some, None, IsSome, arith, refl, ap, sym, ◌∙◌, subst, inl, inr, get_or-set_other, get_or-set_same}
 use Rattle.std.specs.declared.cmp.Ordering.{Ordering}
 use Rattle.std.specs.Cmp.{IsTotalOrder}
 use Rattle.std.proofs.lemmas.Bool.{cases_eq}
 use Rattle.std.proofs.lemmas.Cmp.{tied_itself, upto}
-use Rattle.std.proofs.lemmas.List.{get_or-drop, get_or_past}
+use Rattle.std.proofs.lemmas.List.{get_or-drop, get_or_past, set-set, set-get_or}
 use Rattle.std.proofs.lemmas.Bool.{cases_lt}
-use Rattle.fixed_places.specs.Tree.{Before, IsLesser, AreNodesBut, IsTree}
+use Rattle.fixed_places.specs.Tree.{Before, IsLesser, IsNode, IsSibling, AreNodesBut, IsTree}
 
 module _ {K : Type 0} (R : K → K → Ordering) where
   pub before-same : IsTotalOrder R → (a : Option K) → Before R a a
@@ -41,6 +41,57 @@ module _ {K : Type 0} (R : K → K → Ordering) where
               get_or-set_other xs at i v None other,
             )
             (others i first last other)
+      ]
+
+  -- the parent of a node that was given another key was a node with the key before
+  pub node_before : (xs : List (Option K)) (places at : ℕ) (v was : Option K) → 1 < at → at < 2 * places
+      → was ≡ get_or xs at None → AreNodesBut R xs places at
+      → IsNode R (set (set xs at v) at was) (at / 2)
+  node_before xs places at v was some within is others =
+      let same : set (set xs at v) at was ≡ xs = set-set xs at v was ∙ ap (set xs at) is ∙ set-get_or xs at None in
+      rw same (others (at / 2) (omega (arith, some)) (omega (arith, within)) (omega (arith, some)))
+
+  -- a parent that is settled stays a node
+  pub node_settled : (xs : List (Option K)) (places at other : ℕ) (was : Option K) → 1 < at → at < 2 * places
+      → length xs ≡ 2 * places → IsSibling at other → IsNode R (set xs at was) (at / 2)
+      → ((r : Option K) → IsLesser R r was (get_or xs other None)
+      → IsLesser R r (get_or xs at None) (get_or xs other None))
+      → ((r : Option K) → IsLesser R r (get_or xs other None) was
+      → IsLesser R r (get_or xs other None) (get_or xs at None))
+      → IsNode R xs (at / 2)
+  node_settled xs places at other was some within len sibling node left right =
+      let inside : at < length xs = omega (arith, within, len) in
+      let parent : get_or (set xs at was) (at / 2) None ≡ get_or xs (at / 2) None =
+      get_or-set_other xs at (at / 2) was None (omega (arith, some)) in
+      elim sibling.side [
+        | inl e ↦
+            let here : get_or (set xs at was) (2 * (at / 2)) None ≡ was =
+            ap (λ i. get_or (set xs at was) i None) (sym e.0) ∙ get_or-set_same xs at was None inside in
+            let there : get_or (set xs at was) (2 * (at / 2) + 1) None ≡ get_or xs (2 * (at / 2) + 1) None =
+            get_or-set_other xs at (2 * (at / 2) + 1) was None (omega (arith, e.0)) in
+            let beside = there ∙ ap (λ i. get_or xs i None) (sym e.1) in
+            let was_so : IsLesser R (get_or xs (at / 2) None) was (get_or xs other None) =
+            subst (λ x. IsLesser R x was (get_or xs other None)) parent
+            (subst (λ x. IsLesser R (get_or (set xs at was) (at / 2) None) x (get_or xs other None)) here
+            (subst (λ x. IsLesser R (get_or (set xs at was) (at / 2) None)
+            (get_or (set xs at was) (2 * (at / 2)) None) x) beside node)) in
+            subst (λ i. IsLesser R (get_or xs (at / 2) None) (get_or xs i None) (get_or xs (2 * (at / 2) + 1) None)) e.0
+            (subst (λ i. IsLesser R (get_or xs (at / 2) None) (get_or xs at None) (get_or xs i None)) e.1
+            (left (get_or xs (at / 2) None) was_so))
+        | inr e ↦
+            let here : get_or (set xs at was) (2 * (at / 2) + 1) None ≡ was =
+            ap (λ i. get_or (set xs at was) i None) (sym e.0) ∙ get_or-set_same xs at was None inside in
+            let there : get_or (set xs at was) (2 * (at / 2)) None ≡ get_or xs (2 * (at / 2)) None =
+            get_or-set_other xs at (2 * (at / 2)) was None (omega (arith, e.0)) in
+            let beside = there ∙ ap (λ i. get_or xs i None) (sym e.1) in
+            let was_so : IsLesser R (get_or xs (at / 2) None) (get_or xs other None) was =
+            subst (λ x. IsLesser R x (get_or xs other None) was) parent
+            (subst (λ x. IsLesser R (get_or (set xs at was) (at / 2) None) (get_or xs other None) x) here
+            (subst (λ x. IsLesser R (get_or (set xs at was) (at / 2) None) x
+            (get_or (set xs at was) (2 * (at / 2) + 1) None)) beside node)) in
+            subst (λ i. IsLesser R (get_or xs (at / 2) None) (get_or xs (2 * (at / 2)) None) (get_or xs i None)) e.0
+            (subst (λ i. IsLesser R (get_or xs (at / 2) None) (get_or xs i None) (get_or xs at None)) e.1
+            (right (get_or xs (at / 2) None) was_so))
       ]
 
   -- no node is below the root

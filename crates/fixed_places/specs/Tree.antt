@@ -1,6 +1,6 @@
 -- A tree whose nodes each hold the lesser key of their two children, in a list: the root at 1, the
 -- children of i at 2 * i and 2 * i + 1.
-use Rattle.std.specs.Prelude.{◌≡◌, ◌≢◌, ◌⊎◌, ℕ, ◌+◌, ◌*◌, ◌^◌, ◌<◌, ◌≤◌, false, List, length, Option, Some, None, IsSome, slice_index_or}
+use Rattle.std.specs.Prelude.{◌≡◌, ◌≢◌, ◌⊎◌, ℕ, ◌+◌, ◌*◌, ◌/◌, ◌^◌, ◌<◌, ◌≤◌, false, List, length, Option, Some, None, IsSome, slice_index_or}
 use Rattle.std.specs.declared.cmp.Ordering.{Ordering}
 use Rattle.std.specs.Ordering.{is_gt}
 
@@ -38,6 +38,10 @@ module _ {K : Type 0} (R : K → K → Ordering) where
     pub within : at < length keys
     pub some : IsSome (slice_index_or keys at None)
     pub least : (i : ℕ) → Before (slice_index_or keys at None) (slice_index_or keys i None)
+
+-- the other child of a node's parent
+pub record IsSibling (at other : ℕ) : Type 0 where
+  pub side : ((at ≡ 2 * (at / 2)) × (other ≡ 2 * (at / 2) + 1)) ⊎ ((at ≡ 2 * (at / 2) + 1) × (other ≡ 2 * (at / 2)))
 
 -- every place is empty
 abbrev pub HasNone : {K : Type 0} → List (Option K) → Type 0

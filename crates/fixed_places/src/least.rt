@@ -1,9 +1,10 @@
 //! The least key among those of a fixed number of places.
-ghost use Rattle.std.specs.Prelude.{◌≡◌, ℕ, ◌*◌, ◌/◌, ◌^◌, ◌<◌, ◌≤◌, length, drop, replicate, slice_set, slice_index_or, None, IfOk, IfNone, IfSome, MatchBool};
-ghost use Rattle.fixed_places.specs.Tree.{Before, IsLesser, AreNodesBut, IsTree, IsLeast, HasNone};
+ghost use Rattle.std.specs.Prelude.{◌≡◌, ℕ, ◌*◌, ◌/◌, ◌^◌, ◌<◌, ◌≤◌, length, drop, replicate, slice_set, slice_index_or, None, IfOk, IfNone, IfSome, MatchBool, true, Option};
+ghost use Rattle.fixed_places.specs.Tree.{Before, IsLesser, IsNode, IsSibling, AreNodesBut, IsTree, IsLeast, HasNone};
 
 use std::alloc::{AllocError, Global};
 use std::marker::Model;
+use std::mem;
 
 /// A key or none in each place. A change and the least key take a number of steps that grows with the
 /// logarithm of the number of places.
@@ -58,8 +59,8 @@ impl<K: Ord + Copy> Least<K> {
         ensures { self.new ≡ slice_set self.old at key }
     {
         let leaf = self.places + at;
-        self.nodes[leaf] = key;
-        climb(&mut self.nodes, self.places, leaf);
+        let was = mem::replace(&mut self.nodes[leaf], key);
+        climb(&mut self.nodes, self.places, leaf, was);
     }
 
     /// A place of the least key; `None` exactly where every place is empty.
@@ -76,7 +77,8 @@ impl<K: Ord + Copy> Least<K> {
 
 /// Whether the one key is below the other; no key is above every key.
 fn is_less<K: Ord + Copy>(a: Option<K>, b: Option<K>) -> bool
-    ensures { MatchBool result (Before K.cmp a b) (Before K.cmp b a) }
+    ensures order { MatchBool result (Before K.cmp a b) (Before K.cmp b a) }
+    ensures strict { result ≡ true → ¬ Before K.cmp b a }
 {
     match (a, b) {
         (None, _) => false,
@@ -92,21 +94,56 @@ fn lesser<K: Ord + Copy>(a: Option<K>, b: Option<K>) -> Option<K>
     if is_less(b, a) { b } else { a }
 }
 
-/// Mends the nodes above a leaf.
-fn climb<K: Ord + Copy>(nodes: &mut Vec<Option<K>>, places: usize, leaf: usize)
+/// The other child of a node's parent.
+fn sibling(at: usize) -> usize
+    requires some { 1 < at }
+    requires few { at < 2 ^ 33 }
+    ensures { IsSibling at result }
+{
+    if at % 2 == 0 { at + 1 } else { at - 1 }
+}
+
+/// Whether the lesser of two keys is the other one, both before and after the one has changed.
+fn is_settled<K: Ord + Copy>(was: Option<K>, now: Option<K>, other: Option<K>) -> bool
+    ensures left { result ≡ true → (r : Option K) → IsLesser K.cmp r was other → IsLesser K.cmp r now other }
+    ensures right { result ≡ true → (r : Option K) → IsLesser K.cmp r other was → IsLesser K.cmp r other now }
+{
+    is_less(other, was) && !is_less(now, other)
+}
+
+/// Makes a node the lesser of its children, and hands out the key that it had.
+fn mend<K: Ord + Copy>(nodes: &mut Vec<Option<K>>, places: usize, at: usize) -> Option<K>
+    requires some { 0 < at }
+    requires within { at < places }
+    requires few { places ≤ 2 ^ 32 }
+    requires len { length nodes.old.items ≡ 2 * places }
+    requires others { AreNodesBut K.cmp nodes.old.items places at }
+    ensures len { length nodes.new.items ≡ 2 * places }
+    ensures leaves { drop places nodes.new.items ≡ drop places nodes.old.items }
+    ensures others { AreNodesBut K.cmp nodes.new.items places (at / 2) }
+    ensures parent { 1 < at → IsNode K.cmp (slice_set nodes.new.items at result) (at / 2) }
+{
+    let made = lesser(nodes[2 * at], nodes[2 * at + 1]);
+    mem::replace(&mut nodes[at], made)
+}
+
+/// Mends the nodes above a leaf that had another key, as far as they change.
+fn climb<K: Ord + Copy>(nodes: &mut Vec<Option<K>>, places: usize, leaf: usize, was: Option<K>)
     requires some { 0 < places }
     requires few { places ≤ 2 ^ 32 }
     requires len { length nodes.old.items ≡ 2 * places }
     requires leaf { places ≤ leaf }
     requires within { leaf < 2 * places }
     requires others { AreNodesBut K.cmp nodes.old.items places (leaf / 2) }
+    requires parent { 1 < leaf → IsNode K.cmp (slice_set nodes.old.items leaf was) (leaf / 2) }
     ensures leaves { drop places nodes.new.items ≡ drop places nodes.old.items }
     ensures tree { IsTree K.cmp places nodes.new.items }
 {
     let mut at = leaf;
-    while at > 1 {
+    let mut was = was;
+    while at > 1 && !is_settled(was, nodes[at], nodes[sibling(at)]) {
         at /= 2;
-        nodes[at] = lesser(nodes[2 * at], nodes[2 * at + 1]);
+        was = mend(nodes, places, at);
     }
 }
 

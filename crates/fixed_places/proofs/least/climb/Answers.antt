@@ -1,24 +1,37 @@
-use Rattle.std.proofs.Common.{◌≡◌, ◌+◌, ◌*◌, ◌/◌, ◌<◌, ◌∙◌, get_or, None, arith, length-set}
-use Rattle.std.proofs.lemmas.Grind.{common_steps}
-use Rattle.std.proofs.lemmas.List.{drop-set-lt}
-use Rattle.fixed_places.proofs.TreeLaws.{node_made}
+use Rattle.std.proofs.Common.{◌≡◌, ◌+◌, ◌*◌, ◌/◌, ◌<◌, ◌∙◌, length, get_or, None, arith, inl, inr}
+use Rattle.std.proofs.lemmas.Bool.{cases_eq}
+use Rattle.std.proofs.lemmas.List.{get_or_default}
+use Rattle.fixed_places.specs.Tree.{IsNode}
+use Rattle.fixed_places.proofs.TreeLaws.{node_settled}
 use Rattle.fixed_places.proofs.least.climb.Goals as goal
 
-pub loop-at-preserved : goal.loop-at-preserved
-loop-at-preserved g c =
-    let nodes = c.loop-at.nodes.items in
-    let at = c.loop-at.at / 2 in
-    let made = c.lesser.result in
-    let some : 0 < at = omega arith in
-    let within : at < c.args.places = omega arith in
-    let left : c.index.result.now ≡ get_or nodes (2 * at) None = grind (arith, common_steps) in
-    let right : c.index-in-loop-at.result.now ≡ get_or nodes (2 * at + 1) None = grind (arith, common_steps) in
-    let lesser = rw (left, right) at c.lesser.ensures in
+pub returns-else-not-is_settled-clause-tree : goal.returns-else-not-is_settled-clause-tree
+returns-else-not-is_settled-clause-tree g c =
+    let l = c.loop-at in
+    let nodes = l.nodes.items in
+    let other = c.sibling.result in
+    let inside : l.at < length nodes = omega (arith, l.invariant.last, l.invariant.len) in
+    let beside : other < length nodes =
+    elim c.sibling.ensures.side [
+      | inl e ↦ omega (arith, e.0, e.1, l.invariant.last, l.invariant.len)
+      | inr e ↦ omega (arith, e.0, e.1, l.invariant.last, l.invariant.len)
+    ] in
+    let now : c.index.result.now ≡ get_or nodes l.at None = c.index.ensures
+    ∙ get_or_default nodes l.at c.index.result.now None inside in
+    let there : c.index-in-loop-at.result.now ≡ get_or nodes other None = c.index-in-loop-at.ensures
+    ∙ get_or_default nodes other c.index-in-loop-at.result.now None beside in
+    let left = rw (now, there) at c.is_settled.ensures.left c.if-not-is_settled.false in
+    let right = rw (now, there) at c.is_settled.ensures.right c.if-not-is_settled.false in
+    let parent : IsNode g.K.Ord.cmp nodes (l.at / 2) =
+    node_settled g.K.Ord.cmp nodes c.args.places l.at other l.was c.loop-at-test.true l.invariant.last l.invariant.len
+    c.sibling.ensures (l.invariant.parent c.loop-at-test.true) left right in
     record {
-      first = some;
-      last = omega arith;
-      len = length-set nodes at made ∙ c.loop-at.invariant.len;
-      leaves = drop-set-lt c.args.places nodes at made within ∙ c.loop-at.invariant.leaves;
-      others = node_made g.K.Ord.cmp nodes c.args.places at made some within c.loop-at.invariant.len lesser
-          c.loop-at.invariant.others;
+      some = c.requires.some;
+      few = c.requires.few;
+      len = l.invariant.len;
+      node = λ i first last.
+          elim (cases_eq i (l.at / 2)) [
+            | inl here ↦ rw here parent
+            | inr apart ↦ l.invariant.others i first last apart
+          ];
     }

@@ -1,5 +1,5 @@
-use Rattle.std.proofs.Common.{◌≡◌, ◌-◌, ◌*◌, ◌/◌, ◌<◌, length, drop}
-use Rattle.fixed_places.specs.Tree.{AreNodesBut}
+use Rattle.std.proofs.Common.{◌≡◌, ◌-◌, ◌*◌, ◌/◌, ◌<◌, length, drop, set}
+use Rattle.fixed_places.specs.Tree.{AreNodesBut, IsNode}
 use Rattle.fixed_places.proofs.least.climb.Given as goal
 
 -- all but the node above are nodes, and the leaves stay
@@ -10,6 +10,7 @@ invariant-loop-at g l = record {
   len : length l.nodes.items ≡ 2 * l.places;
   leaves : drop l.places l.nodes.items ≡ drop l.places l.initial.nodes.items;
   others : AreNodesBut g.K.Ord.cmp l.nodes.items l.places (l.at / 2);
+  parent : 1 < l.at → IsNode g.K.Ord.cmp (set l.nodes.items l.at l.was) (l.at / 2);
 }
 
 abbrev pub decreases-loop-at : goal.decreases-loop-at

@@ -14,7 +14,7 @@ loop-at-preserved-then-is_less g c =
       first = omega arith;
       last = omega arith;
       reaches = right_reaches g.K.Ord.cmp g.met.K.Ord.total (get_or nodes at None) _ _ _
-          (c.requires.node at c.loop-at.invariant.first c.loop-at-test.true) less c.loop-at.invariant.reaches;
+          (c.requires.node at c.loop-at.invariant.first c.loop-at-test.true) less.order c.loop-at.invariant.reaches;
     }
 
 pub loop-at-preserved : goal.loop-at-preserved
@@ -28,5 +28,5 @@ loop-at-preserved g c =
       first = omega arith;
       last = omega arith;
       reaches = left_reaches g.K.Ord.cmp g.met.K.Ord.total (get_or nodes at None) _ _ _
-          (c.requires.node at c.loop-at.invariant.first c.loop-at-test.true) less c.loop-at.invariant.reaches;
+          (c.requires.node at c.loop-at.invariant.first c.loop-at-test.true) less.order c.loop-at.invariant.reaches;
     }
