@@ -1,11 +1,10 @@
 -- The blocks that have one byte at each place, and which of them were made.
-use Rattle.std.proofs.Common.{◌≡◌, ℕ, suc, ◌+◌, ◌*◌, ◌<◌, ◌≤◌, List, [], ◌∷◌, length, map, get_or, set, take, drop, replicate, All, Bool, true, false, not, nat_eq, vec_len, Vec, Global, refl, sym, ap, ◌∙◌, subst, inl, inr, arith}
+use Rattle.std.proofs.Common.{◌≡◌, ℕ, ◌*◌, ◌<◌, List, [], ◌∷◌, length, map, get_or, set, take, drop, replicate, All, vec_len, Vec, Global, refl, ap, ◌∙◌, subst, inl, inr, arith}
 use Rattle.std.proofs.lemmas.Bool.{cases_eq, cases_lt}
-use Rattle.std.proofs.lemmas.List.{length-set, length-take, length-drop, get_or-take, get_or-drop, get_or-set_same, get_or-set_other, get_or_past}
+use Rattle.std.proofs.lemmas.List.{length-set, get_or-take, get_or-drop, get_or-set_same, get_or-set_other, get_or_past}
 use Rattle.std.proofs.lemmas.List.Elements.{All-get_or}
 use Rattle.std.specs.List.{AllZip, each_same}
-use Rattle.std.specs.Cmp.Lexicographic.{pointwise, same_text}
-use Rattle.sim_disk.specs.Bytes.{filled, block_of}
+use Rattle.sim_disk.specs.Bytes.{filled}
 use Rattle.sim_disk.specs.Shared.{IsMade, AreFilled, IsShared, byte_of}
 
 -- no block was made
@@ -50,30 +49,6 @@ module _ (shared : List (List ℕ)) (byte : ℕ) (block : List ℕ) (before : Ar
     ];
   }
 
--- bytes of which each is the one before
-pub all_first : (byte : ℕ) (bytes : List ℕ) → bytes ≡ take (length bytes) (byte ∷ bytes)
-    → bytes ≡ replicate (length bytes) byte
-all_first byte [] same = refl
-all_first byte (next ∷ rest) same =
-    let here : next ≡ byte = cc in
-    let later : rest ≡ take (length rest) (next ∷ rest) = cc in
-    ap (λ b. b ∷ rest) here ∙ ap (λ l. byte ∷ l) (all_first next rest later)
-    ∙ ap (λ b. byte ∷ replicate (length rest) b) here
-
-one_more : (n byte : ℕ) → byte ∷ replicate n byte ≡ replicate (suc n) byte
-one_more n byte = refl
-
--- a block of which each byte is the one before
-pub filled_with_first : (block : List ℕ) (n : ℕ) → length block ≡ 4096 → n + 1 ≡ length block
-    → drop 1 block ≡ take n block → block ≡ filled (get_or block 0 0)
-unfolding filled
-filled_with_first [] n long some same = absurd (omega (arith, long))
-filled_with_first (first ∷ rest) n long some same =
-    let len : length rest ≡ n = omega (arith, some) in
-    let next : rest ≡ take (length rest) (first ∷ rest) = rw len same in
-    ap (λ l. first ∷ l) (all_first first rest next) ∙ one_more (length rest) first
-    ∙ ap (λ n. replicate n first) long
-
 -- the first byte of a block
 pub first_byte : (bytes : List ℕ) (at from end : ℕ) → from ≡ 4096 * at → 0 < end
     → get_or (take end (drop from bytes)) 0 0 ≡ byte_of bytes at
@@ -82,25 +57,22 @@ first_byte bytes at from end from_is some =
     ∙ ap (λ i. get_or bytes i 0) (omega (arith, from_is))
 
 -- a block that is that of its first byte
-pub shared_block : (shared : List (List ℕ)) (bytes : List ℕ) (at from end first : ℕ) → AreFilled shared
-    → from ≡ 4096 * at → end ≡ 4096 → first ≡ byte_of bytes at → 4096 * (at + 1) ≤ length bytes
-    → get_or shared first [] ≡ take end (drop from bytes) → IsShared shared bytes at
-shared_block shared bytes at from end first all from_is end_is first_is within same =
-    let block : get_or shared (byte_of bytes at) [] ≡ block_of bytes at =
-    subst (λ b. get_or shared b [] ≡ block_of bytes at) first_is
-    (subst (λ n. get_or shared first [] ≡ take 4096 (drop n bytes)) from_is
-    (subst (λ n. get_or shared first [] ≡ take n (drop from bytes)) end_is same)) in
-    let made : IsMade shared (byte_of bytes at) = made_some shared (byte_of bytes at) all
-    (omega (arith, within, ap length block, length-take 4096 (drop (4096 * at) bytes), length-drop (4096 * at) bytes)) in
-    record { made = made; same = sym block ∙ made }
+pub shared_block : (shared : List (List ℕ)) (bytes : List ℕ) (at from end : ℕ) → from ≡ 4096 * at → end ≡ 4096
+    → IsMade shared (get_or (take end (drop from bytes)) 0 0)
+    → take end (drop from bytes) ≡ filled (get_or (take end (drop from bytes)) 0 0) → IsShared shared bytes at
+shared_block shared bytes at from end from_is end_is made same =
+    let first = first_byte bytes at from end from_is (omega (arith, end_is)) in
+    record {
+      made = subst (IsMade shared) first made;
+      same = subst (λ n. take 4096 (drop n bytes) ≡ filled (byte_of bytes at)) from_is
+          (subst (λ n. take n (drop from bytes) ≡ filled (byte_of bytes at)) end_is (same ∙ ap filled first));
+    }
 
-not_unequal : (same : Bool) → false ≡ not same → true ≡ same
-not_unequal true unequal = refl
-not_unequal false unequal = cc
-
--- what a test has told that finds two lists not unequal
-pub told_same : (xs ys : List ℕ) → false ≡ not (pointwise nat_eq xs ys) → xs ≡ ys
-told_same xs ys test = same_text xs ys (not_unequal (pointwise nat_eq xs ys) test)
+-- bytes that are all one byte, as many as a block has
+pub filled_all : (block : List ℕ) (byte : ℕ) → length block ≡ 4096 → block ≡ replicate (length block) byte
+    → block ≡ filled byte
+unfolding filled
+filled_all block byte len all = all ∙ ap (λ n. replicate n byte) len
 
 -- blocks that were copied
 pub copied_all : (blocks copies : List (Vec ℕ Global))

@@ -1,6 +1,5 @@
 -- Writes that come in flight and go.
-use Rattle.std.proofs.Common.{◌≡◌, ℕ, ◌+◌, ◌<◌, ◌≤◌, ◌⊎◌, List, [], ◌∷◌, ◌++◌, length, get_or, filter, find, cond, not, Bool, true, false, Option, Some, None, IsSome, refl, sym, ap, subst, ◌∙◌, inl, inr, arith, All, AllPairs, count_by}
-use Rattle.std.specs.List.{list_any, slice_get, remove}
+use Rattle.std.proofs.Common.{◌≡◌, ℕ, ◌≤◌, ◌⊎◌, List, [], ◌∷◌, ◌++◌, filter, find, cond, Bool, true, false, Some, None, refl, sym, ap, subst, ◌∙◌, inl, inr, arith, All, count_by}
 use Rattle.std.proofs.lemmas.Bool.{cases_Bool, cond-true, cond-false}
 use Rattle.std.proofs.lemmas.Bool.Decides.{nat_tests}
 use Rattle.std.proofs.lemmas.List.Elements.{All-push, All-filter}
@@ -8,7 +7,7 @@ use Rattle.std.proofs.lemmas.List.Kept.{AllPairs-filter}
 use Rattle.std.proofs.lemmas.List.Quantifiers.{all_pairs_push}
 use Rattle.std.proofs.lemmas.Option.{none-some, slice_get_within, get_or_from_slice_get}
 use Rattle.split_types.specs.declared.ids.ReqId.{ReqId}
-use Rattle.split_types.proofs.Lists.{find_there, count_push, count_no, count_filter_less, filter_one}
+use Rattle.split_types.proofs.Lists.{find_there, count_push, count_no, count_filter_less}
 use Rattle.sim_disk.specs.Medium.{InFlight, AreApart, is_of, write_of}
 use Rattle.sim_disk.specs.Fields.{IsWithin, AreInFlight}
 

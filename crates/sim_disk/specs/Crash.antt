@@ -1,5 +1,5 @@
 -- What a crash leaves of a disk.
-use Rattle.std.specs.Prelude.{◌≡◌, ℕ, ◌<◌, List, length, find, count_by, [], Option, Some, None, slice_get, ◌*◌}
+use Rattle.std.specs.Prelude.{◌≡◌, ℕ, ◌<◌, List, length, find, count_by, [], Option, Some, None, slice_get}
 use Rattle.std.specs.List.{range_with_len}
 use Rattle.sim_disk.specs.declared.disk.crash.Fate.{Fate}
 use Rattle.sim_disk.specs.declared.disk.crash.Fate.TheVariants.{Old, New, Bytes}

@@ -1,5 +1,5 @@
 -- What contracts see of a disk, and of the writes in flight.
-use Rattle.std.specs.Prelude.{◌≡◌, ◌⊎◌, ℕ, ◌+◌, ◌-◌, ◌*◌, ◌/◌, ◌<◌, ◌≤◌, ◌==◌, ◌&&◌, nat_le, nat_lt, List, length, find, Bool, Option, AllPairs, All}
+use Rattle.std.specs.Prelude.{◌⊎◌, ℕ, ◌+◌, ◌-◌, ◌/◌, ◌≤◌, ◌==◌, ◌&&◌, nat_le, nat_lt, List, length, find, Bool, Option}
 use Rattle.std.specs.List.{list_any}
 use Rattle.split_types.specs.declared.ids.ReqId.{ReqId}
 use Rattle.sim_disk.specs.Bytes.{block_of}

@@ -13,7 +13,7 @@ use std::marker::Model;
 pub(crate) const BLOCK: usize = 4096;
 
 /// The blocks of a disk. Each stands in a run, which leaves with the last block that stands in it, or is one of
-/// the blocks that all blocks share that have one byte at each place.
+/// the shared blocks, which have one byte at each place.
 #[derive(Drop)]
 pub(crate) struct Blocks {
     places: Vec<Place>,

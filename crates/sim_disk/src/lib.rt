@@ -5,9 +5,14 @@
 //! in which it is finished well; a write that is finished badly changes no block. A read sees no write in
 //! flight. A crash gives each block in flight one of three fates, and leaves all others.
 //!
-//! The disk is sparse: all blocks that have one byte at each place share one block in memory, for each byte,
-//! and what else was written together stands once in memory. Memory is asked for by `start`, or by `room`
-//! before it, and never by `finish`.
+//! The disk is sparse. For each byte there is at most one block in memory, with this byte at each place, that
+//! blocks of the disk share. Blocks that were never written share that of zeros, and blocks that `fill` filled
+//! share that of their byte. The blocks of a write share such blocks where each of them has one byte at each
+//! place, and the block of each of these bytes was made: `start` makes those that are missing, as far as there
+//! is memory. Any other write keeps its own bytes, those of its blocks of one byte too, and they stay in memory
+//! as long as a block of the disk still holds its part of them. What a crash brings to a block counts as a write
+//! of this block alone, for which none is made. For a write memory is asked for by `start`, or by `room` before
+//! it, and never by `finish`.
 //!
 //! The core sends its writes to a disk, and loads pages from it. What a crash leaves is for recovery.
 #![tactic(auto)]

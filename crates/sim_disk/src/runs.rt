@@ -9,7 +9,7 @@ use std::alloc::AllocError;
 /// Where a block's bytes stand.
 #[derive(Clone, Copy)]
 pub(crate) enum Place {
-    /// In the block that all blocks share that have this byte at each place.
+    /// In the shared block that has this byte at each place.
     Filled(u8),
     /// In this run, behind `at` other blocks.
     Within { run: usize, at: u32 },

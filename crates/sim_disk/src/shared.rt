@@ -1,5 +1,5 @@
 //! Blocks that have one byte at each place.
-ghost use Rattle.std.specs.Prelude.{◌≡◌, ℕ, ◌*◌, ◌<◌, ◌≤◌, true, length, slice_index_or, IfOk, OnOk};
+ghost use Rattle.std.specs.Prelude.{◌≡◌, ℕ, ◌*◌, ◌<◌, ◌≤◌, true, length, replicate, slice_index_or, IfOk, OnOk};
 ghost use Rattle.sim_disk.specs.Bytes.{filled};
 ghost use Rattle.sim_disk.specs.Shared.{IsMade, IsShared};
 
@@ -9,6 +9,9 @@ use std::marker::Model;
 
 /// How many bytes there are.
 const BYTES: usize = 256;
+
+/// How many bytes of a block are looked at first where all are to be the same.
+const FEW: usize = 16;
 
 /// For each byte the block that has it at each place, from when it was made on, and nothing before.
 #[derive(Drop)]
@@ -27,12 +30,22 @@ impl Model for Shared {
     ghost invariant = { λ s. AreFilled (map (λ v. v.items) s.blocks.items) };
 }
 
-/// Whether a block has its first byte at each place.
-fn is_filled(block: &[u8]) -> bool
-    requires { length block.now ≡ 4096 }
-    ensures { result ≡ true → block.now ≡ filled (slice_index_or block.now 0 0) }
+/// Whether all bytes are this one. Where one of the first few isn't, no more are looked at.
+fn are_all(bytes: &[u8], byte: u8) -> bool
+    ensures { result ≡ true → bytes.now ≡ replicate (length bytes.now) byte }
 {
-    block[1..] == block[..block.len() - 1]
+    bytes.iter().take(FEW).all(|other| *other == byte) && are_same(bytes, byte)
+}
+
+/// Whether all bytes are this one; all are looked at.
+fn are_same(bytes: &[u8], byte: u8) -> bool
+    ensures { result ≡ true → bytes.now ≡ replicate (length bytes.now) byte }
+{
+    let mut same = true;
+    for other in bytes {
+        same &= *other == byte;
+    }
+    same
 }
 
 impl Shared {
@@ -70,10 +83,20 @@ impl Shared {
     {
         for at in 0..bytes.len() / BLOCK {
             let block = &bytes[at * BLOCK..at * BLOCK + BLOCK];
-            if self.blocks[block[0] as usize].is_empty() && is_filled(block) {
+            if self.blocks[block[0] as usize].is_empty() && are_all(block, block[0]) {
                 let _ = self.make(alloc, block[0]);
             }
         }
+    }
+
+    /// Whether a block is one that was made.
+    fn has(&self, block: &[u8]) -> bool
+        requires { length block.now ≡ 4096 }
+        ensures made { result ≡ true → IsMade self.now (slice_index_or block.now 0 0) }
+        ensures same { result ≡ true → block.now ≡ filled (slice_index_or block.now 0 0) }
+    {
+        let byte = block[0];
+        !self.blocks[byte as usize].is_empty() && are_all(block, byte)
     }
 
     /// Whether each of the first `n` blocks is one that was made.
@@ -83,7 +106,7 @@ impl Shared {
     {
         for at in 0..n as usize {
             let block = &bytes[at * BLOCK..at * BLOCK + BLOCK];
-            if self.blocks[block[0] as usize].as_slice() != block {
+            if !self.has(block) {
                 return false;
             }
         }

@@ -1,4 +1,4 @@
-use Rattle.std.proofs.Common.{◌≡◌, length, sum_by, arith, ap, sym, ◌∙◌}
+use Rattle.std.proofs.Common.{length, sum_by, arith, ap, sym, ◌∙◌}
 use Rattle.sim_disk.specs.Medium.{count_of}
 use Rattle.sim_disk.specs.Crash.{in_flight_count}
 use Rattle.sim_disk.proofs.CrashLaws.{in_flight_together, below_few}

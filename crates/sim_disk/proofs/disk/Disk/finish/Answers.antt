@@ -1,8 +1,7 @@
 -- The write that ends had whole blocks of the disk; the others stay in flight.
-use Rattle.std.proofs.Common.{◌≡◌, ℕ, ◌+◌, ◌*◌, ◌/◌, ◌<◌, ◌≤◌, length, not, arith, sym, ap, ◌∙◌, subst}
-use Rattle.sim_disk.specs.Bytes.{block_of}
-use Rattle.sim_disk.specs.Medium.{InFlight, count_of, is_of}
-use Rattle.sim_disk.specs.Fields.{IsWithin, AreInFlight}
+use Rattle.std.proofs.Common.{◌≡◌, length, not, arith, ap}
+use Rattle.sim_disk.specs.Medium.{is_of}
+use Rattle.sim_disk.specs.Fields.{IsWithin}
 use Rattle.sim_disk.proofs.WriteLaws.{all_found, ended}
 use Rattle.sim_disk.proofs.disk.Disk.finish.Goals as goal
 

@@ -1,9 +1,7 @@
 -- A block in flight takes the next fate, of which there is one for each.
-use Rattle.std.proofs.Common.{◌≡◌, ◌<◌, length, find, Some, None, get_or, arith, refl, sym, ap, subst}
+use Rattle.std.proofs.Common.{◌≡◌, ◌<◌, length, Some, arith, refl, sym, subst}
 use Rattle.std.specs.List.{slice_get}
-use Rattle.std.proofs.lemmas.Grind.{common_steps}
 use Rattle.std.proofs.lemmas.Option.{slice_get_read}
-use Rattle.sim_disk.specs.Medium.{covers}
 use Rattle.sim_disk.specs.Crash.{IsFate}
 use Rattle.sim_disk.proofs.CrashLaws.{below_few}
 use Rattle.sim_disk.proofs.FateLaws.{found_covers, fate_left, struck_none, struck_one}
