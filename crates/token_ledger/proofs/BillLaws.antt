@@ -10,6 +10,7 @@ use Rattle.std.proofs.lemmas.List.FromFn.{get_or-enumerate_from, length-enumerat
 use Rattle.std.proofs.lemmas.List.Sums.{sum_by-le-sum_by, sum_by-cons, sum_by_more, sum_by-take-le}
 use Rattle.split_types.specs.Sets.{pids, has, some_has, IsSet}
 use Rattle.split_types.specs.Share.{share, share_of, rank, bill_of_parts}
+use Rattle.split_types.proofs.Shared.{rank-below}
 use Rattle.cause_set.specs.Shares.{IsPart, BillsAddUp}
 use Rattle.token_ledger.specs.declared.pair.Pair.{Pair}
 use Rattle.token_ledger.specs.declared.standing.Standing.{Standing}
@@ -17,6 +18,7 @@ use Rattle.token_ledger.specs.Places.{OpenOnes}
 use Rattle.token_ledger.specs.Books.{Books, Bills, owner_in, of_account, bill_of}
 use Rattle.token_ledger.specs.Standings.{books_of, IsStanding, IsNumber, AreKept, AreBilled, bears, billed_at}
 use Rattle.token_ledger.proofs.ListLaws.{sum_filter, sum_same, sum_none, sum_swap}
+use Rattle.token_ledger.proofs.RankLaws.{Rises, set_rises, rank_first, rank_rest}
 use Rattle.token_ledger.proofs.StandingLaws.{nobody, of_here, of_other}
 
 -- ---- what an account bears
@@ -260,21 +262,25 @@ books_billed S T O ones cost parts are = record {
 
 -- ---- a part that is being billed
 
--- those that are left stand in the set, and what an account was billed and what those of its processes that are left
--- bear
--- are all that it bears
-pub record IsBilling (start now : List Standing) (owners : List ℕ) (cost : ℕ) (set left : List ℕ) : Type 0 where
+-- n are billed, and those that are left rise and stand in the set, behind them; what an account was billed and what those
+-- of its processes that are left bear are all that it bears
+pub record IsBilling (start now : List Standing) (owners : List ℕ) (cost : ℕ) (set : List ℕ) (n : ℕ) (left : List ℕ)
+    : Type 0 where
   pub done : ℕ → ℕ
   pub billed : AreBilled start now done
   pub among : (p : ℕ) → has left p ≡ true → has set p ≡ true
+  pub rises : Rises left
+  pub ranks : (p : ℕ) → has left p ≡ true → rank set p ≡ n + rank left p
   pub sum : (a : ℕ) → done a + sum_by (λ p. of_account owners a p (share_of cost set p)) left ≡ bears owners cost set a
 
 pub billing_none : (S : List Standing) (owners : List ℕ) (cost : ℕ) (set left : List ℕ) → IsSet set → left ≡ set
-    → IsBilling S S owners cost set left
+    → IsBilling S S owners cost set 0 left
 billing_none S owners cost set left is all = rw all (record {
   done = λ a. 0;
   billed = billed_none S (λ a. 0) (λ a. refl);
   among = λ p here. here;
+  rises = set_rises set is;
+  ranks = λ p here. omega arith;
   sum = λ a. (let zero = bears_set owners cost set a is in omega arith);
 })
 
@@ -282,17 +288,38 @@ here_first : (q : ℕ) (rest : List ℕ) → has (q ∷ rest) q ≡ true
 here_first q rest = grind (arith, nat_tests)
 
 -- the next one is a payer
-pub billing_payer : (S T : List Standing) (owners : List ℕ) (cost : ℕ) (set : List ℕ) (q : ℕ) (rest : List ℕ)
-    → IsBilling S T owners cost set (q ∷ rest) → has set q ≡ true
-billing_payer S T owners cost set q rest b = b.among q (here_first q rest)
+pub billing_payer : (S T : List Standing) (owners : List ℕ) (cost : ℕ) (set : List ℕ) (n q : ℕ) (rest : List ℕ)
+    → IsBilling S T owners cost set n (q ∷ rest) → has set q ≡ true
+billing_payer S T owners cost set n q rest b = b.among q (here_first q rest)
+
+-- its rank is how many are billed, so its share is the one of that rank
+pub billing_rank : (S T : List Standing) (owners : List ℕ) (cost : ℕ) (set : List ℕ) (n q : ℕ) (rest : List ℕ)
+    → IsBilling S T owners cost set n (q ∷ rest) → rank set q ≡ n
+billing_rank S T owners cost set n q rest b =
+    let first = rank_first q rest b.rises in
+    let all = b.ranks q (here_first q rest) in
+    omega arith
+
+pub billing_below : (S T : List Standing) (owners : List ℕ) (cost : ℕ) (set : List ℕ) (n q : ℕ) (rest : List ℕ)
+    → IsBilling S T owners cost set n (q ∷ rest) → n < length set
+billing_below S T owners cost set n q rest b =
+    let is = billing_rank S T owners cost set n q rest b in
+    let below = rank-below set q (billing_payer S T owners cost set n q rest b) in
+    omega arith
+
+pub billing_share : (S T : List Standing) (owners : List ℕ) (cost : ℕ) (set : List ℕ) (n q : ℕ) (rest : List ℕ)
+    → IsBilling S T owners cost set n (q ∷ rest) → share_of cost set q ≡ share cost n (length set)
+billing_share S T owners cost set n q rest b =
+    ap (λ t. if t then share cost (rank set q) (length set) else 0) (billing_payer S T owners cost set n q rest b)
+    ∙ ap (λ r. share cost r (length set)) (billing_rank S T owners cost set n q rest b)
 
 -- its share fits
-pub billing_fits : (S T : List Standing) (owners : List ℕ) (cost : ℕ) (set : List ℕ) (q : ℕ) (rest : List ℕ) (at : ℕ)
+pub billing_fits : (S T : List Standing) (owners : List ℕ) (cost : ℕ) (set : List ℕ) (n q : ℕ) (rest : List ℕ) (at : ℕ)
     (s : Standing)
-    → IsBilling S T owners cost set (q ∷ rest) → at < length S → s ≡ get_or T at s → at + 1 ≡ owner_in owners q
+    → IsBilling S T owners cost set n (q ∷ rest) → at < length S → s ≡ get_or T at s → at + 1 ≡ owner_in owners q
     → ((a : ℕ) → IsNumber (length S) a → billed_at S a + bears owners cost set a < 2 ^ 60)
     → s.billed + share_of cost set q < 2 ^ 60
-billing_fits S T owners cost set q rest at s b within read owner room =
+billing_fits S T owners cost set n q rest at s b within read owner room =
     let f : ℕ → ℕ = λ p. of_account owners (at + 1) p (share_of cost set p) in
     let len = b.billed.len in
     let number : IsNumber (length S) (at + 1) = record { from = omega arith; to = omega arith } in
@@ -306,22 +333,27 @@ billing_fits S T owners cost set q rest at s b within read owner room =
     let fits = room (at + 1) number in
     omega arith
 
-pub billing_more : (S T : List Standing) (owners : List ℕ) (cost : ℕ) (those : List ℕ) (q : ℕ) (rest : List ℕ) (at : ℕ)
+pub billing_more : (S T : List Standing) (owners : List ℕ) (cost : ℕ) (those : List ℕ) (n q : ℕ) (rest : List ℕ) (at : ℕ)
     (s : Standing)
-    → IsBilling S T owners cost those (q ∷ rest) → at < length S → s ≡ get_or T at s → at + 1 ≡ owner_in owners q
-    → IsBilling S (set T at (record s { billed = s.billed + share_of cost those q })) owners cost those rest
-billing_more S T owners cost those q rest at s b within read owner =
+    → IsBilling S T owners cost those n (q ∷ rest) → at < length S → s ≡ get_or T at s → at + 1 ≡ owner_in owners q
+    → IsBilling S (set T at (record s { billed = s.billed + share_of cost those q })) owners cost those (n + 1) rest
+billing_more S T owners cost those n q rest at s b within read owner =
     let len = b.billed.len in
-    let n : ℕ = share_of cost those q in
-    let more : ℕ → ℕ = λ a. of_account owners a q n in
-    let one : AreBilled T (set T at (record s { billed = s.billed + n })) more =
-    billed_one T at s n more (omega arith) read (of_here owners (at + 1) q n (sym owner))
-    (λ i apart. of_other owners (i + 1) q n (λ e. apart (omega arith))) in
+    let bill : ℕ = share_of cost those q in
+    let more : ℕ → ℕ = λ a. of_account owners a q bill in
+    let one : AreBilled T (set T at (record s { billed = s.billed + bill })) more =
+    billed_one T at s bill more (omega arith) read (of_here owners (at + 1) q bill (sym owner))
+    (λ i apart. of_other owners (i + 1) q bill (λ e. apart (omega arith))) in
     record {
       done = λ a. b.done a + more a;
-      billed = billed_then S T (set T at (record s { billed = s.billed + n })) b.done more
+      billed = billed_then S T (set T at (record s { billed = s.billed + bill })) b.done more
           (λ a. b.done a + more a) b.billed one (λ a. refl);
       among = λ p here. b.among p (later p (q == p) here);
+      rises = b.rises.1;
+      ranks = λ p here.
+          let before = b.ranks p (later p (q == p) here) in
+          let one_below = rank_rest q p rest b.rises here in
+          omega arith;
       sum = λ a.
           let due = b.sum a in
           let first = sum_by-cons (λ p. of_account owners a p (share_of cost those p)) q rest in
@@ -332,8 +364,8 @@ billing_more S T owners cost those q rest at s b within read owner =
     later p true here = refl
     later p false here = here
 
-pub billing_all : (S T : List Standing) (owners : List ℕ) (cost : ℕ) (set left : List ℕ)
-    → IsBilling S T owners cost set left → left ≡ [] → AreBilled S T (bears owners cost set)
-billing_all S T owners cost set left b none =
+pub billing_all : (S T : List Standing) (owners : List ℕ) (cost : ℕ) (set : List ℕ) (n : ℕ) (left : List ℕ)
+    → IsBilling S T owners cost set n left → left ≡ [] → AreBilled S T (bears owners cost set)
+billing_all S T owners cost set n left b none =
     billed_as S T b.done (bears owners cost set) b.billed
     (λ a. let due = rw none at (b.sum a) in omega arith)

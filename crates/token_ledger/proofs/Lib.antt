@@ -2,4 +2,5 @@ mod KeyLaws
 mod ListLaws
 mod PlaceLaws
 mod StandingLaws
+mod RankLaws
 mod BillLaws

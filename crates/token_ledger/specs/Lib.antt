@@ -1,4 +1,5 @@
 pub mod Books
 pub mod Codes
 pub mod Places
+pub mod Splits
 pub mod Standings

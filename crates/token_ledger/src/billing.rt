@@ -1,12 +1,12 @@
 //! How a cost is billed to accounts.
-ghost use Rattle.std.specs.Prelude.{◌≡◌, ℕ, ◌+◌, ◌<◌, ◌≤◌, length, All, IsTrue};
+ghost use Rattle.std.specs.Prelude.{◌≡◌, ℕ, ◌+◌, ◌≤◌, length, All, IsTrue};
 ghost use Rattle.split_types.specs.Sets.{has, some_has};
-ghost use Rattle.split_types.specs.Share.{share};
 ghost use Rattle.token_ledger.specs.Books.{BillsWithinCosts, owner_in, bill_of};
 ghost use Rattle.token_ledger.specs.Standings.{IsNumber, AreBilled, HaveRoom, bears};
 
+use crate::split::Split;
 use crate::standing::Standing;
-use cause_set::{Causes, bills_add_up, share_of};
+use cause_set::{Causes, bills_add_up};
 use split_types::Pid;
 
 /// Where the account of a process stands.
@@ -18,19 +18,6 @@ pub(crate) fn place_of(owners: &[u32], p: Pid) -> usize
     (owners[(p.0 - 1) as usize] - 1) as usize
 }
 
-/// The share of the cost for the part of this number among so many.
-fn share_among(cost: u64, at: usize, parts: usize) -> u64
-    requires { at < parts }
-    ensures { result ≡ share cost at parts }
-{
-    let even = cost / parts as u64;
-    if (at as u64) < cost % parts as u64 {
-        even + 1
-    } else {
-        even
-    }
-}
-
 /// Bills a cost that is split over one set.
 fn bill_part(standings: &mut [Standing], owners: &[u32], cost: u64, part: &Causes)
     requires owners { All (IsNumber (length standings.old)) owners.now }
@@ -39,9 +26,10 @@ fn bill_part(standings: &mut [Standing], owners: &[u32], cost: u64, part: &Cause
     ensures { AreBilled standings.old standings.new (bears owners.now cost part.now) }
 {
     part.rises();
-    for p in part.iter() {
+    let split = Split::new(cost, u64::from(part.len()));
+    for (rank, p) in part.iter().enumerate() {
         let at = place_of(owners, p);
-        standings[at].billed += share_of(cost, part, p);
+        standings[at].billed += split.share(rank as u64);
     }
 }
 
@@ -52,8 +40,9 @@ pub(crate) fn bill_parts(standings: &mut [Standing], owners: &[u32], cost: u64, 
     requires room { HaveRoom standings.old (bill_of owners.now cost parts.now) }
     ensures { AreBilled standings.old standings.new (bill_of owners.now cost parts.now) }
 {
+    let split = Split::new(cost, parts.len() as u64);
     for (at, part) in parts.iter().enumerate() {
-        bill_part(standings, owners, share_among(cost, at, parts.len()), part);
+        bill_part(standings, owners, split.share(at as u64), part);
     }
 }
 

@@ -19,6 +19,7 @@ mod ledger;
 mod pair;
 mod pairs;
 mod place;
+mod split;
 mod standing;
 
 pub use billing::bills_within_costs;

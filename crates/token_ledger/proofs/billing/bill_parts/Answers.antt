@@ -10,7 +10,7 @@ bill_part-requires-clause-payers c =
     c.loop-at-test.true c.index-parts-at.is here)
 
 pub bill_part-requires-clause-room : goal.bill_part-requires-clause-room
-bill_part-requires-clause-room c = rw c.share_among.ensures (λ a number.
+bill_part-requires-clause-room c = rw (c.share.ensures ∙ c.new-split.ensures c.loop-at.at c.loop-at-test.true) (λ a number.
     let S = c.args.standings.now in
     let T = c.loop-at.standings in
     let O = c.args.owners.now in
@@ -30,10 +30,10 @@ loop-at-preserved c =
     let n = c.loop-at.at in
     let part = c.index-parts-at.result in
     billed_then c.args.standings.now c.loop-at.standings c.bill_part.new.standings (first_bears O c.args.cost parts n)
-    (bears O c.share_among.result part)
+    (bears O c.share.result part)
     (first_bears O c.args.cost parts (n + 1)) c.loop-at.invariant c.bill_part.ensures
     (λ a. first_more O c.args.cost parts n part a c.loop-at-test.true c.index-parts-at.is
-    ∙ ap (λ cost. first_bears O c.args.cost parts n a + bears O cost part a) (sym c.share_among.ensures))
+    ∙ ap (λ cost. first_bears O c.args.cost parts n a + bears O cost part a) (sym (c.share.ensures ∙ c.new-split.ensures n c.loop-at-test.true)))
 
 pub returns : goal.returns
 returns c =
