@@ -15,6 +15,7 @@ pub mod ClientViews
 pub mod DrainReads
 pub mod FactsReads
 pub mod TurnNotes
+pub mod CargoNotes
 pub mod MediumNotesLists
 pub mod MediumNotesCargo
 pub mod MediumNotes

@@ -72,7 +72,7 @@ medium_add_read w h by r m accepted legal stands none = record {
 
 pub medium_add_write : (w : Workload) (h : List Event) (by : Actor) (r : Request) (m new : Medium) (bytes : List ℕ)
     → IsAccepted w → IsLegal w (h ▹ Add by r) → MediumStands w m h → is_write r ≡ true → bytes ≡ all_carried w h r
-    → new.disk ≡ m.disk → map (λ v. v.items) new.carried.items ≡ map (λ v. v.items) m.carried.items ++ bytes ∷ []
+    → new.disk ≡ m.disk → new.carried.items ≡ m.carried.items ++ bytes ∷ []
     → MediumStands w new (h ▹ Add by r)
 medium_add_write w h by r m new bytes accepted legal stands writing is same pushed = record {
   size = ap (λ d. length d.blocks) same ∙ stands.size;

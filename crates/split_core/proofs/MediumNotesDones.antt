@@ -144,7 +144,7 @@ medium_done_write w h k id r m new accepted legal stands at is_one finishes = re
       ∙ ap (filter (λ v. not (is_of id v))) stands.writes
       ∙ filter-map (λ v. not (is_of id v)) (flying w h) (filter is_write (in_flight h))
       ∙ ap (map (flying w h)) (filter_swap (λ q. not (is_numbered id q)) is_write (in_flight h));
-  carried = ap (λ q. map (λ v. v.items) q.items) finishes.carried ∙ stands.carried;
+  carried = ap (λ q. q.items) finishes.carried ∙ stands.carried;
 }
   where
     d : IsDone w h k id

@@ -67,7 +67,7 @@ medium_send_read w h id cost m fits stands none = record {
 -- the bytes at the front are those of the request that is sent, and the others are those of the others
 pub front_of : (w : Workload) (h : List Event) (id : ReqId) (cost : ℕ) (m : Medium)
     → (fits : SendFits w h id cost) → MediumStands w m h → is_write fits.request ≡ true
-    → map (λ v. v.items) m.carried.items
+    → m.carried.items
     ≡ cargo w h fits.request.id ∷ map (λ q. cargo w h q.id) (filter is_write (drop 1 (queued h)))
 front_of w h id cost m fits stands writing =
     stands.carried
@@ -168,7 +168,7 @@ given_is w h id cost r given fits at is = same_Some fits.request r (sym fits.at 
 
 pub starts : (w : Workload) (h : List Event) (id : ReqId) (cost : ℕ) (m : Medium) (r : Request) (bytes : List ℕ)
     (rest : List (List ℕ)) → IsAccepted w → IsLegal w h → (fits : SendFits w h id cost) → MediumStands w m h
-    → fits.request ≡ r → is_write r ≡ true → map (λ v. v.items) m.carried.items ≡ bytes ∷ rest
+    → fits.request ≡ r → is_write r ≡ true → m.carried.items ≡ bytes ∷ rest
     → MayStart m.disk.blocks m.disk.writes (record { id = id; first = r.first; bytes = bytes })
 starts w h id cost m r bytes rest accepted legal fits stands same writing popped =
     let first : is_write fits.request ≡ true = ap is_write same ∙ writing
@@ -182,17 +182,17 @@ starts w h id cost m r bytes rest accepted legal fits stands same writing popped
 
 pub medium_send_write : (w : Workload) (h : List Event) (id : ReqId) (cost : ℕ) (m new : Medium) (bytes : List ℕ)
     → IsAccepted w → IsLegal w h → (fits : SendFits w h id cost) → MediumStands w m h → is_write fits.request ≡ true
-    → map (λ v. v.items) m.carried.items ≡ bytes ∷ map (λ v. v.items) new.carried.items
+    → m.carried.items ≡ bytes ∷ new.carried.items
     → new.disk.blocks ≡ m.disk.blocks
     → new.disk.writes ≡ m.disk.writes ++ record { id = id; first = fits.request.first; bytes = bytes } ∷ []
     → MediumStands w new (h ▹ Send id cost)
 medium_send_write w h id cost m new bytes accepted legal fits stands writing popped same started =
     let r = fits.request
     in let front = front_of w h id cost m fits stands writing
-    in let both : bytes ∷ map (λ v. v.items) new.carried.items
+    in let both : bytes ∷ new.carried.items
     ≡ cargo w h r.id ∷ map (λ q. cargo w h q.id) (filter is_write (drop 1 (queued h))) = sym popped ∙ front
     in let is : bytes ≡ cargo w h r.id = cc
-    in let others : map (λ v. v.items) new.carried.items
+    in let others : new.carried.items
     ≡ map (λ q. cargo w h q.id) (filter is_write (drop 1 (queued h))) = cc
     in record {
       size = ap length same ∙ stands.size;
@@ -219,7 +219,7 @@ medium_send_write w h id cost m new bytes accepted legal fits stands writing pop
 pub medium_send_given : (w : Workload) (h : List Event) (id : ReqId) (cost : ℕ) (m new : Medium) (r : Request)
     (bytes : List ℕ) → IsAccepted w → IsLegal w h → (fits : SendFits w h id cost) → MediumStands w m h
     → fits.request ≡ r → is_write r ≡ true
-    → map (λ v. v.items) m.carried.items ≡ bytes ∷ map (λ v. v.items) new.carried.items
+    → m.carried.items ≡ bytes ∷ new.carried.items
     → new.disk.blocks ≡ m.disk.blocks
     → new.disk.writes ≡ m.disk.writes ++ record { id = id; first = r.first; bytes = bytes } ∷ []
     → MediumStands w new (h ▹ Send id cost)

@@ -8,6 +8,7 @@ pub mod Pages
 pub mod Book
 pub mod Dispatch
 pub mod Takings
+pub mod Cargo
 pub mod Medium
 pub mod Served
 pub mod Time

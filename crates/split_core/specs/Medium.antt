@@ -1,5 +1,5 @@
 -- What the disk that is kept has to do with a history.
-use Rattle.std.specs.Prelude.{◌≡◌, ℕ, ◌<◌, ◌≤◌, List, [], length, map, filter, Option, Some, None}
+use Rattle.std.specs.Prelude.{◌≡◌, ℕ, ◌<◌, ◌≤◌, List, [], length, map, filter, slice_get, Option, Some, None, IfSome}
 use Rattle.std.specs.VecDeque.{deque_len, deque_capacity}
 use Rattle.split_types.specs.declared.ids.ReqId.{ReqId}
 use Rattle.split_types.specs.declared.request.Request.{Request}
@@ -37,9 +37,10 @@ pub record MediumStands (w : Workload) (m : Medium) (h : List Event) : Type 0 wh
   pub size : length m.disk.blocks ≡ w.device
   pub blocks : (x : ℕ) → first_block w ≤ x → x < w.device → block_at m.disk.blocks x ≡ disk_block w h x
   pub writes : m.disk.writes ≡ map (flying w h) (filter is_write (in_flight h))
-  pub carried : map (λ v. v.items) m.carried.items ≡ map (λ r. cargo w h r.id) (filter is_write (queued h))
+  pub carried : m.carried.items ≡ map (λ r. cargo w h r.id) (filter is_write (queued h))
 
--- there is room for one more write
+-- there is room for one more write, and memory for the bytes of the one that is sent next
 pub record HasMediumRoom (m : Medium) : Type 0 where
   pub disk : 0 < m.disk.spare
   pub carried : deque_len m.carried < deque_capacity m.carried
+  pub spare : IfSome (slice_get m.carried.items 0) (λ bytes. length bytes ≤ m.spare)

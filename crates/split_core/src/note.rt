@@ -1,6 +1,7 @@
 //! What the core knows of its history, part by part. Each part takes note of every event.
 
 pub(crate) mod book;
+pub(crate) mod cargo;
 pub(crate) mod clients;
 pub(crate) mod counts;
 pub(crate) mod dispatch;

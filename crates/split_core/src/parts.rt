@@ -178,7 +178,7 @@ impl Parts {
     {
         self.pages.room(alloc)?;
         self.tags.room(TAGS_OF_AN_EVENT)?;
-        self.medium.room()?;
+        self.medium.room(alloc)?;
         self.book.room()?;
         self.dispatch.room()
     }

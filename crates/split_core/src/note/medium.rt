@@ -1,5 +1,5 @@
 //! The disk, and the bytes of the writes that are queued.
-ghost use Rattle.std.specs.Prelude.{◌≡◌, ◌+◌, ◌≤◌, ◌<◌, [], length, List, Some, IfOk, OnOk};
+ghost use Rattle.std.specs.Prelude.{◌≡◌, ◌+◌, ◌≤◌, ◌<◌, [], length, slice_get, List, Some, IfOk, IfSome, OnOk};
 ghost use Rattle.std.specs.VecDeque.{deque_len, deque_capacity};
 ghost use Rattle.split_types.specs.History.{◌▹◌};
 ghost use Rattle.split_types.specs.Requests as requests;
@@ -11,6 +11,7 @@ ghost use Rattle.split_core.specs.Givens.{IsGiven};
 ghost use Rattle.split_core.specs.Takings.{Brings};
 ghost use Rattle.split_core.specs.Medium.{IsStart, MediumStands, HasMediumRoom};
 
+use crate::note::cargo::{Cargo, Spare};
 use crate::parts::{FIRST_DATA_BLOCK, Given};
 use hook_events::History;
 use sim_disk::Disk;
@@ -22,7 +23,9 @@ use std::collections::VecDeque;
 #[derive(Drop)]
 pub(crate) struct Medium {
     pub(crate) disk: Disk,
-    pub(crate) carried: VecDeque<Vec<u8>>,
+    pub(crate) carried: VecDeque<Cargo>,
+    /// Memory for the bytes of the write that is sent next, where they have none of their own.
+    pub(crate) spare: Spare,
 }
 
 /// Whether a request writes.
@@ -56,15 +59,28 @@ impl Medium {
         Ok(Medium {
             disk,
             carried: VecDeque::new(alloc),
+            spare: Spare::new(alloc),
         })
     }
 
-    /// Makes room for one more write.
-    pub(crate) fn room(&mut self) -> Result<(), AllocError>
+    /// How many bytes the write carries that is sent next, if one is queued.
+    fn next_bytes(&self) -> usize
+        ensures { IfSome (slice_get self.now.carried.items 0) (λ bytes. length bytes ≤ result) }
+    {
+        match self.carried.front() {
+            Some(cargo) => cargo.len(),
+            None => 0,
+        }
+    }
+
+    /// Makes room for one more write, and memory for the bytes of the one that is sent next.
+    pub(crate) fn room(&mut self, alloc: Global) -> Result<(), AllocError>
         ensures stands { (w : Workload) (h : List Event) → MediumStands w self.old h → MediumStands w self.new h }
         ensures ok { OnOk result (HasMediumRoom self.new) }
     {
         self.disk.room(1)?;
+        let bytes = self.next_bytes();
+        self.spare.make(alloc, bytes)?;
         self.carried.reserve(1)
     }
 
@@ -87,12 +103,13 @@ impl Medium {
     {
         match *e {
             Event::Add { req, .. } => if is_write(&req) {
-                self.carried.push_back_reserved(bytes)
+                self.carried.push_back_reserved(Cargo::of(bytes))
             },
             Event::Send { id, .. } => if let Some(request) = given.request
                 && is_write(&request)
             {
-                if let Some(bytes) = self.carried.pop_front() {
+                if let Some(cargo) = self.carried.pop_front() {
+                    let bytes = cargo.into_bytes(&mut self.spare);
                     self.disk.start(id, request.first, bytes).unwrap()
                 }
             },
