@@ -1,6 +1,6 @@
 -- What processes bear of a cost adds up to it, and the bills to the clock.
 use Rattle.std.proofs.Common.{◌≡◌, ℕ, ◌+◌, ◌==◌, ◌<◌, ◌≤◌, List, [], ◌∷◌, ◌++◌, length, filter, sum_by, count_by, Bool, true, false, not, Some, None, cond, refl, arith, subst, sym, ◌∙◌, ap}
-use Rattle.std.proofs.lemmas.Bool.{cond-false, eq-eqb, ne_eqb}
+use Rattle.std.proofs.lemmas.Bool.{cond-false, eq-eqb, lt-ltb, ne_eqb}
 use Rattle.std.proofs.lemmas.List.Sums.{sum_by-cons}
 use Rattle.split_types.specs.declared.ids.ReqId.{ReqId}
 use Rattle.split_types.specs.declared.request.Request.{Request}
@@ -15,13 +15,15 @@ use Rattle.split_types.specs.Share.{share_of, bill_of_parts}
 use Rattle.split_types.specs.CostAndClock.{cost_of, now, ticks}
 use Rattle.split_types.specs.Bills.{parts, bill, billed}
 use Rattle.split_types.specs.Requests.{is_numbered, requests, in_flight, unfinished}
-use Rattle.split_types.specs.Writeback.{request_for}
+use Rattle.split_types.specs.Serving.{request_for}
 use Rattle.split_types.specs.Workloads.{processes}
 use Rattle.split_types.specs.Accepted.{IsAccepted}
 use Rattle.split_types.specs.Legal.{IsLegal}
 use Rattle.split_types.specs.LegalHistories.{IsBorneWhole, completions, BillsConserve, PartsAreTags}
 use Rattle.split_types.specs.Proving.Came.{Came, read_request}
-use Rattle.split_types.specs.Proving.Came.Came.{came_enter, came_admit, came_no_file, came_wrote, came_read, came_fault, came_put, came_get, came_zeros, came_evict, came_load, came_serve, came_add, came_send, came_done}
+use Rattle.split_types.specs.Proving.Came.Came.{came_enter, came_admit, came_changed, came_exists, came_no_slot, came_make, came_drop, came_no_file, came_too_big}
+use Rattle.split_types.specs.Proving.Came.Came.{came_wrote, came_read, came_fault, came_no_space, came_put, came_get, came_zeros, came_evict, came_load}
+use Rattle.split_types.specs.Proving.Came.Came.{came_serve, came_skip, came_map, came_grow, came_add, came_send, came_done}
 use Rattle.split_types.specs.Proving.Known.{Known, AreOf}
 use Rattle.split_types.proofs.CameLaws.{came}
 use Rattle.split_types.proofs.KnownLaws.{known, flight_of}
@@ -33,7 +35,7 @@ use Rattle.split_types.proofs.TagLaws.{tags_are_payers}
 
 -- ---- parts
 pub parts_are_tags : PartsAreTags
-parts_are_tags w h id accepted = rw accepted.built.version refl
+parts_are_tags w h id accepted = rw (lt-ltb w.version 3 (omega (arith, accepted.built.version))) refl
 
 -- so a bill is a share
 pub bill_is : (w : Workload) (h : List Event) (id p : ℕ) → IsAccepted w
@@ -149,7 +151,14 @@ once_next : (w : Workload) (h : List Event) (e : Event) → Known w h → Came w
     → AreDoneOnce (adds (h ▹ e)) (completions (h ▹ e)) (unfinished (h ▹ e))
 once_next w h e f (came_enter p c has out) o = o
 once_next w h e f (came_admit p c has in' out may) o = o
+once_next w h e f (came_make p name slot admitted idle unused at) o = o
+once_next w h e f (came_drop p name serial working idle) o = o
 once_next w h e f (came_no_file p c admitted none) o = o
+once_next w h e f (came_changed p c admitted names acted) o = o
+once_next w h e f (came_exists p name admitted idle taken) o = o
+once_next w h e f (came_no_slot p name admitted idle unused none) o = o
+once_next w h e f (came_too_big p name off len fill s working big) o = o
+once_next w h e f (came_no_space p name off len fill s piece here out none) o = o
 once_next w h e f (came_wrote p name off len fill t working none) o = o
 once_next w h e f (came_read p name off len t working none) o = o
 once_next w h e f (came_fault p c t piece working left bad) o = o
@@ -160,10 +169,13 @@ once_next w h e f (came_evict p c t piece here absent v k found) o = o
 once_next w h e f (came_load p c t piece here absent block at) o =
     once_add (requests h) (unfinished h) (adds h) (completions h)
     (read_request (adds h) p t piece.page block) f.waiting.left_of f.numbered.counted refl o
-once_next w h e f (came_serve t k idle found) o = o
-once_next w h e f (came_add run at) o =
+once_next w h e f (came_serve run idle found) o = o
+once_next w h e f (came_skip run at gone) o = o
+once_next w h e f (came_map run free serves there none at) o = o
+once_next w h e f (came_grow run block serves there at short) o = o
+once_next w h e f (came_add run block at there placed known) o =
     once_add (requests h) (unfinished h) (adds h) (completions h)
-    (request_for w (adds h) run) f.waiting.left_of f.numbered.counted refl o
+    (request_for (adds h) run block) f.waiting.left_of f.numbered.counted refl o
 once_next w h e f (came_send r free picked) o = o
 once_next w h e f (came_done k r at) o =
     once_done (unfinished h) (adds h) (completions h) r.id (flight_of w h k r f at).below

@@ -1,10 +1,11 @@
 -- How held, loading, dirty and busy pages change with each event.
-use Rattle.std.proofs.Common.{◌≡◌, ℕ, List, Bool, true, false, not, ◌&&◌, ◌||◌, Some, None, refl, subst, sym, ap, ◌∙◌}
+use Rattle.std.proofs.Common.{◌≡◌, ℕ, List, slice_get, Bool, true, false, not, ◌&&◌, ◌||◌, Some, None, refl, arith, subst, sym, ap, ◌∙◌}
 use Rattle.std.specs.List.{list_any}
-use Rattle.std.proofs.lemmas.Bool.{both_ways}
+use Rattle.std.proofs.lemmas.Bool.{both_ways, false_from_ne_true, ne_eqb, or_left}
 use Rattle.std.proofs.lemmas.Option.{same_Some}
 use Rattle.split_types.specs.declared.ids.Pid.{Pid}
 use Rattle.split_types.specs.declared.ids.Serial.{Serial}
+use Rattle.split_types.specs.declared.ids.Slot.{Slot}
 use Rattle.split_types.specs.declared.actor.Actor.{Actor}
 use Rattle.split_types.specs.declared.actor.Actor.TheVariants.{Client, Wb}
 use Rattle.split_types.specs.declared.buf.Buf.{Buf}
@@ -13,7 +14,7 @@ use Rattle.split_types.specs.declared.call.Call.TheVariants.{Write}
 use Rattle.split_types.specs.declared.request.Request.{Request}
 use Rattle.split_types.specs.declared.workload.Workload.{Workload}
 use Rattle.split_types.specs.declared.event.Event.{Event}
-use Rattle.split_types.specs.declared.event.Event.TheVariants.{Put, Add, Done, Evict}
+use Rattle.split_types.specs.declared.event.Event.TheVariants.{Make, Put, Drop, Add, Done, Evict}
 use Rattle.split_types.specs.History.{◌▹◌, adds}
 use Rattle.split_types.specs.Hooks.{maker, same_buf, covers}
 use Rattle.split_types.specs.Requests.{is_numbered, unfinished}
@@ -21,21 +22,28 @@ use Rattle.split_types.specs.Pages.{is_live_page, is_put_since, is_dirty, is_bus
 use Rattle.split_types.specs.Reads.{reads, outstanding, is_loading}
 use Rattle.split_types.specs.HeldPages.{is_placed, is_held}
 use Rattle.split_types.specs.Victims.{victim}
-use Rattle.split_types.specs.Writeback.{request_for}
-use Rattle.split_types.specs.PagesInCache.{PageIs, PageAfter, PagesChange}
+use Rattle.split_types.specs.FileMaps.{mapped_block}
+use Rattle.split_types.specs.FileSlots.{next_serial, slot_of}
+use Rattle.split_types.specs.FilesInOrder.{all_files, AreFiles}
+use Rattle.split_types.specs.Serving.{request_for}
+use Rattle.split_types.specs.PagesInCache.{is_page_of, PageIs, PageAfter, PagesChange}
+use Rattle.split_types.specs.Accepted.{IsAccepted}
+use Rattle.split_types.specs.Legal.{IsLegal}
 use Rattle.split_types.specs.Proving.Came.{Came, read_request}
-use Rattle.split_types.specs.Proving.Came.Came.{came_enter, came_admit, came_no_file, came_wrote, came_read, came_fault, came_put, came_get, came_zeros, came_evict, came_load, came_serve, came_add, came_send, came_done}
+use Rattle.split_types.specs.Proving.Came.Came.{came_enter, came_admit, came_changed, came_exists, came_no_slot, came_make, came_drop, came_no_file, came_too_big}
+use Rattle.split_types.specs.Proving.Came.Came.{came_wrote, came_read, came_fault, came_no_space, came_put, came_get, came_zeros, came_evict, came_load}
+use Rattle.split_types.specs.Proving.Came.Came.{came_serve, came_skip, came_map, came_grow, came_add, came_send, came_done}
 use Rattle.split_types.specs.Proving.Known.{Known}
 use Rattle.split_types.proofs.CameLaws.{came}
-use Rattle.split_types.proofs.KnownLaws.{known}
+use Rattle.split_types.proofs.FileLaws.{files_are_in_order}
 use Rattle.split_types.proofs.HeldLaws.{same_buf-is}
-use Rattle.split_types.proofs.NumberLaws.{all_done_well}
-use Rattle.split_types.proofs.PinLaws.{Pins, pins}
 use Rattle.split_types.proofs.WaitingLaws.{number_here}
-use Rattle.split_types.proofs.Lists.{list_any_here}
+use Rattle.split_types.proofs.Lists.{find_some, list_any_here}
 use Rattle.split_types.proofs.KeptLists.{any_pushed}
-use Rattle.split_types.proofs.CacheLaws.{any_without, live_here, live_stays, IsFlying, flying, served_ready, ready_live, takes_once}
+use Rattle.split_types.proofs.CacheLaws.{any_without, live_here, live_after, live_changes, IsKnown, is_known}
+use Rattle.split_types.proofs.CacheLaws.{read_moved, IsFlying, flying, served_ready, ready_live, takes_once}
 use Rattle.split_types.proofs.CacheKept.{victim_free, Kept, kept}
+use Rattle.split_types.proofs.PlacedLaws.{IsFilePage, placed_file}
 
 -- ---- from the parts of a page's state
 -- whether its file is there, a request that isn't done reads it, it was put or loaded and not evicted since, it was put
@@ -147,6 +155,109 @@ after_add w h b by r read written live =
     (add_clean (is_live_page w h b) (covers r b) (is_put_since h b))
     (put_dirty (is_live_page w h b) (covers r b) (list_any (λ x. covers x b) (unfinished h)) written)
 
+-- ---- a file that is made
+-- a page that was put or loaded is of another file
+pub past : (w : Workload) (h : List Event) (b : Buf) → IsFilePage w h b → is_page_of (next_serial w h) b ≡ false
+past w h b at =
+    ap (is_page_of (next_serial w h)) at.is
+    ∙ ne_eqb (all_files w h) at.serial.0 (λ (e : all_files w h ≡ at.serial.0). omega (arith, at.file, e))
+
+-- so is one that a request that isn't done reads
+read_past : (w : Workload) (h : List Event) (b : Buf) → IsKnown w h
+    → list_any (λ r. reads r b) (outstanding h) ≡ true → is_page_of (next_serial w h) b ≡ false
+read_past w h b f any =
+    let found = find_some (λ r. reads r b) (outstanding h) any
+    in let r = found.element
+    in let there : slice_get (unfinished h) found.place ≡ Some r =
+    ap (λ l. slice_get l found.place) (sym f.well) ∙ found.there
+    in let run = f.known.runs r.id.0 r (f.known.waiting.left_of found.place r there)
+    in past w h b (record {
+      serial = run.serial;
+      page = run.page;
+      is = read_moved (all_files w h) (mapped_block w h) r b run found.passes;
+      file = run.run.file;
+      within = omega (arith, run.run.within, run.run.some);
+    })
+
+-- and one of a file that is there
+pub live_past : (w : Workload) (h : List Event) (b : Buf) → AreFiles w h → is_live_page w h b ≡ true
+    → is_page_of (next_serial w h) b ≡ false
+live_past w h (Page s g) files live =
+    ne_eqb (all_files w h) s.0 (λ (e : all_files w h ≡ s.0). omega (arith, (files.live s live).numbered, e))
+live_past w h b files live = absurd (cc)
+
+none_of : (live load place : Bool) → live ≡ false → false ≡ ((live && load) || (live && place))
+none_of true load place is = absurd (cc)
+none_of false load place is = refl
+
+none_so : (live part : Bool) → live ≡ false → false ≡ (live && part)
+none_so true part is = absurd (cc)
+none_so false part is = refl
+
+after_make : (w : Workload) (h : List Event) (b : Buf) (q : Pid) (slot : Slot) → IsAccepted w → IsLegal w h
+    → IsKnown w h → Kept h
+    → is_live_page w (h ▹ Make q slot (next_serial w h)) b ≡ (is_page_of (next_serial w h) b || is_live_page w h b)
+    → PageAfter w h (Make q slot (next_serial w h)) b
+after_make w h b q slot accepted legal f old live = by_test (is_page_of (next_serial w h) b) refl
+  where
+    l : List Event
+    l = h ▹ Make q slot (next_serial w h)
+
+    gone : (t : Bool) → is_page_of (next_serial w h) b ≡ true
+        → (t ≡ true → is_page_of (next_serial w h) b ≡ false) → t ≡ false
+    gone t new other =
+        false_from_ne_true t (λ is. both_ways (is_page_of (next_serial w h) b) (other is) new)
+
+    placed_past : is_placed h b ≡ true → is_page_of (next_serial w h) b ≡ false
+    placed_past is = past w h b (placed_file w h b accepted legal is)
+
+    by_test : (t : Bool) → is_page_of (next_serial w h) b ≡ t
+        → PageIs w l b (is_held w h b) (is_loading w h b) (is_dirty w h b) (is_busy w h b)
+    by_test false other =
+        page_stays w h l b (live ∙ ap (λ x. x || is_live_page w h b) other) refl refl refl refl
+    by_test true new =
+        let unlive = gone (is_live_page w h b) new (live_past w h b (files_are_in_order w h accepted legal))
+        in of_parts w l b true false false false false (is_held w h b) (is_loading w h b) (is_dirty w h b)
+        (is_busy w h b)
+        (record {
+          live_is = live ∙ or_left (is_page_of (next_serial w h) b) (is_live_page w h b) new;
+          load_is = gone (list_any (λ r. reads r b) (outstanding h)) new (read_past w h b f);
+          place_is = gone (is_placed h b) new placed_past;
+          put_is = gone (is_put_since h b) new (λ is. placed_past (old.put_placed b is));
+          busy_is =
+              gone (list_any (λ r. covers r b) (unfinished h)) new (λ is. placed_past (old.busy_placed b is));
+        })
+        (none_of (is_live_page w h b) (list_any (λ r. reads r b) (outstanding h)) (is_placed h b) unlive)
+        (none_so (is_live_page w h b) (list_any (λ r. reads r b) (outstanding h)) unlive)
+        (none_so (is_live_page w h b) (is_put_since h b) unlive)
+        (none_so (is_live_page w h b) (list_any (λ r. covers r b) (unfinished h)) unlive)
+
+-- ---- a file that is dropped
+drop_held : (of live load place : Bool)
+    → (((not of && live) && load) || ((not of && live) && place))
+    ≡ (not of && ((live && load) || (live && place)))
+drop_held true live load place = refl
+drop_held false live load place = refl
+
+drop_part : (of live part : Bool) → ((not of && live) && part) ≡ (not of && (live && part))
+drop_part true live part = refl
+drop_part false live part = refl
+
+after_drop : (w : Workload) (h : List Event) (b : Buf) (q : Pid) (slot : Slot) (s : Serial)
+    → is_live_page w (h ▹ Drop q slot s) b ≡ (not (is_page_of s b) && is_live_page w h b)
+    → PageAfter w h (Drop q slot s) b
+after_drop w h b q slot s live =
+    of_parts w (h ▹ Drop q slot s) b (not (is_page_of s b) && is_live_page w h b)
+    (list_any (λ r. reads r b) (outstanding h)) (is_placed h b) (is_put_since h b)
+    (list_any (λ r. covers r b) (unfinished h)) (not (is_page_of s b) && is_held w h b)
+    (not (is_page_of s b) && is_loading w h b) (not (is_page_of s b) && is_dirty w h b)
+    (not (is_page_of s b) && is_busy w h b)
+    (record { live_is = live; load_is = refl; place_is = refl; put_is = refl; busy_is = refl })
+    (drop_held (is_page_of s b) (is_live_page w h b) (list_any (λ r. reads r b) (outstanding h)) (is_placed h b))
+    (drop_part (is_page_of s b) (is_live_page w h b) (list_any (λ r. reads r b) (outstanding h)))
+    (drop_part (is_page_of s b) (is_live_page w h b) (is_put_since h b))
+    (drop_part (is_page_of s b) (is_live_page w h b) (list_any (λ r. covers r b) (unfinished h)))
+
 -- ---- a completion
 -- a page that was read is put in place as its request goes
 done_held : (live does load place : Bool) → (does ≡ true → load ≡ true)
@@ -202,53 +313,71 @@ after_evict w h b q s g found live =
     (victim_free w h (Page s g) found).unread)) refl refl refl
 
 -- ---- every event
-page_next : (w : Workload) (h : List Event) (e : Event) (b : Buf) → Known w h
-    → outstanding h ≡ unfinished h → Pins w h → Kept h → is_live_page w (h ▹ e) b ≡ is_live_page w h b → Came w h e
-    → PageAfter w h e b
-page_next w h e b f same known_pins old live (came_enter q c has out) =
+page_next : (w : Workload) (h : List Event) (e : Event) (b : Buf) → IsAccepted w → IsLegal w h → IsKnown w h → Kept h
+    → is_live_page w (h ▹ e) b ≡ live_after w h e b → Came w h e → PageAfter w h e b
+page_next w h e b accepted legal f old live (came_enter q c has out) =
     page_stays w h (h ▹ e) b live refl refl refl refl
-page_next w h e b f same known_pins old live (came_admit q c has is out may) =
+page_next w h e b accepted legal f old live (came_admit q c has is out may) =
     page_stays w h (h ▹ e) b live refl refl refl refl
-page_next w h e b f same known_pins old live (came_no_file q c admitted none) =
+page_next w h e b accepted legal f old live (came_make q name slot admitted idle unused at) =
+    after_make w h b q (record { 0 = slot }) accepted legal f old live
+page_next w h e b accepted legal f old live (came_drop q name serial working idle) =
+    after_drop w h b q (slot_of w h serial) serial live
+page_next w h e b accepted legal f old live (came_no_file q c admitted none) =
     page_stays w h (h ▹ e) b live refl refl refl refl
-page_next w h e b f same known_pins old live (came_wrote q name off len fill s working none) =
+page_next w h e b accepted legal f old live (came_changed q c admitted names acted) =
     page_stays w h (h ▹ e) b live refl refl refl refl
-page_next w h e b f same known_pins old live (came_read q name off len s working none) =
+page_next w h e b accepted legal f old live (came_exists q name admitted idle taken) =
     page_stays w h (h ▹ e) b live refl refl refl refl
-page_next w h e b f same known_pins old live (came_fault q c s piece working left bad) =
+page_next w h e b accepted legal f old live (came_no_slot q name admitted idle unused none) =
     page_stays w h (h ▹ e) b live refl refl refl refl
-page_next w h e b f same known_pins old live (came_put q name off len fill s piece here may) =
+page_next w h e b accepted legal f old live (came_too_big q name off len fill s working big) =
+    page_stays w h (h ▹ e) b live refl refl refl refl
+page_next w h e b accepted legal f old live (came_no_space q name off len fill s piece here out none) =
+    page_stays w h (h ▹ e) b live refl refl refl refl
+page_next w h e b accepted legal f old live (came_wrote q name off len fill s working none) =
+    page_stays w h (h ▹ e) b live refl refl refl refl
+page_next w h e b accepted legal f old live (came_read q name off len s working none) =
+    page_stays w h (h ▹ e) b live refl refl refl refl
+page_next w h e b accepted legal f old live (came_fault q c s piece working left bad) =
+    page_stays w h (h ▹ e) b live refl refl refl refl
+page_next w h e b accepted legal f old live (came_put q name off len fill s piece here may) =
     after_put w h b q s piece.page piece.from piece.to fill
     (λ is. subst (λ x. is_live_page w h x ≡ true) (sym (same_buf-is b (Page s piece.page) is))
     (live_here w h q (Write name off len fill) s piece here)) live
-page_next w h e b f same known_pins old live (came_get q name off len s piece here held) =
+page_next w h e b accepted legal f old live (came_get q name off len s piece here held) =
     page_stays w h (h ▹ e) b live refl refl refl refl
-page_next w h e b f same known_pins old live (came_zeros q name off len s piece here absent none) =
+page_next w h e b accepted legal f old live (came_zeros q name off len s piece here absent none) =
     page_stays w h (h ▹ e) b live refl refl refl refl
-page_next w h e b f same known_pins old live (came_evict q c s piece here absent t g found) =
+page_next w h e b accepted legal f old live (came_evict q c s piece here absent t g found) =
     after_evict w h b q t g found live
-page_next w h e b f same known_pins old live (came_load q c s piece here absent block at) =
+page_next w h e b accepted legal f old live (came_load q c s piece here absent block at) =
     let r = read_request (adds h) q s piece.page block
     in after_add w h b (Client q) r
     (λ is. subst (λ x. is_live_page w h x ≡ true) (sym (same_buf-is b (Page s piece.page) is))
     (live_here w h q c s piece here))
     (λ is. absurd (both_ways false refl is)) live
-page_next w h e b f same known_pins old live (came_serve t g idle found) =
+page_next w h e b accepted legal f old live (came_serve run idle found) =
     page_stays w h (h ▹ e) b live refl refl refl refl
-page_next w h e b f same known_pins old live (came_add run at) =
-    let r = request_for w (adds h) run
+page_next w h e b accepted legal f old live (came_skip run at gone) =
+    page_stays w h (h ▹ e) b live refl refl refl refl
+page_next w h e b accepted legal f old live (came_map run free serves there none at) =
+    page_stays w h (h ▹ e) b live refl refl refl refl
+page_next w h e b accepted legal f old live (came_grow run block serves there at short) =
+    page_stays w h (h ▹ e) b live refl refl refl refl
+page_next w h e b accepted legal f old live (came_add run block at there placed known) =
+    let r = request_for (adds h) run block
     in after_add w h b Wb r (λ is. absurd (both_ways false refl is))
-    (λ is. ready_live w h b (served_ready w h run b (f.serves run at) is)) live
-page_next w h e b f same known_pins old live (came_send r free picked) =
+    (λ is. ready_live w h b (served_ready w h run b (f.served run at) there is)) live
+page_next w h e b accepted legal f old live (came_send r free picked) =
     page_stays w h (h ▹ e) b live refl refl refl refl
-page_next w h e b f same known_pins old live (came_done k r at) = λ x there.
-    (let fly = flying w h k r f same known_pins at
+page_next w h e b accepted legal f old live (came_done k r at) = λ x there.
+    (let fly = flying w h k r f at
     in subst (λ y. PageIs w (h ▹ Done k r.id true) b (is_held w h b) (not (reads y b) && is_loading w h b)
     (is_dirty w h b) (not (covers y b) && is_busy w h b)) (same_Some r x (sym fly.added ∙ there))
-    (after_done w h b k r f old fly live))
+    (after_done w h b k r f.known old fly live))
 
 pub pages_change : PagesChange
 pages_change w h e b accepted legal =
-    let comes = came w h (maker e) e legal.0
-    in page_next w h e b (known w h accepted legal.1) (all_done_well w h legal.1) (pins w h accepted legal.1)
-    (kept w h accepted legal.1) (live_stays w h e b comes) comes
+    page_next w h e b accepted legal.1 (is_known w h accepted legal.1) (kept w h accepted legal.1)
+    (live_changes w h e b) (came w h (maker e) e legal.0)

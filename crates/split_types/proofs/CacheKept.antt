@@ -23,23 +23,21 @@ use Rattle.split_types.specs.Pieces.{Piece}
 use Rattle.split_types.specs.Reads.{reads, outstanding, is_loading, is_read_of}
 use Rattle.split_types.specs.HeldPages.{is_placed}
 use Rattle.split_types.specs.Victims.{pinned_by, victim}
-use Rattle.split_types.specs.Writeback.{request_for}
+use Rattle.split_types.specs.Serving.{request_for}
+use Rattle.split_types.specs.MapsInOrder.{IsServed}
 use Rattle.split_types.specs.Accepted.{IsAccepted}
 use Rattle.split_types.specs.Legal.{IsLegal}
 use Rattle.split_types.specs.Proving.Came.{Came, IsAtPiece, IsAbsent, read_request}
-use Rattle.split_types.specs.Proving.Came.Came.{came_enter, came_admit, came_no_file, came_wrote, came_read, came_fault, came_put, came_get, came_zeros, came_evict, came_load, came_serve, came_add, came_send, came_done}
-use Rattle.split_types.specs.Proving.Runs.{ServesReady, readiness}
-use Rattle.split_types.specs.Proving.Known.{Known}
+use Rattle.split_types.specs.Proving.Came.Came.{came_enter, came_admit, came_changed, came_exists, came_no_slot, came_make, came_drop, came_no_file, came_too_big}
+use Rattle.split_types.specs.Proving.Came.Came.{came_wrote, came_read, came_fault, came_no_space, came_put, came_get, came_zeros, came_evict, came_load}
+use Rattle.split_types.specs.Proving.Came.Came.{came_serve, came_skip, came_map, came_grow, came_add, came_send, came_done}
 use Rattle.split_types.proofs.CameLaws.{came}
-use Rattle.split_types.proofs.KnownLaws.{known}
 use Rattle.split_types.proofs.HeldLaws.{same_buf-is}
 use Rattle.split_types.proofs.VictimLaws.{victims_are_oldest}
-use Rattle.split_types.proofs.NumberLaws.{all_done_well}
-use Rattle.split_types.proofs.PinLaws.{Pins, pins}
 use Rattle.split_types.proofs.Lists.{count_push, count_none, count_filter_less}
 use Rattle.split_types.proofs.WaitingLaws.{number_here}
 use Rattle.split_types.proofs.KeptLists.{any_filter, any_pushed}
-use Rattle.split_types.proofs.CacheLaws.{any_without, live_here, IsFlying, flying, served_ready}
+use Rattle.split_types.proofs.CacheLaws.{any_without, live_here, IsKnown, is_known, IsFlying, flying, served_ready}
 
 -- ---- what a piece and a victim say
 -- the page of a piece that comes next isn't loading
@@ -200,14 +198,14 @@ kept_load w h q c s piece block here absent old = record {
         let past : ◌≡◌ {A = ℕ} (cond (reads r b) 1 0) 0 = rw other refl
         in omega (arith, count_push (λ x. reads x b) (outstanding h) r, past, old.reads_once b)
 
-kept_add : (w : Workload) (h : List Event) (run : Run) → ServesReady w (readiness w h) run → Kept h
-    → Kept (h ▹ Add Wb (request_for w (adds h) run))
-kept_add w h run serves old = record {
+kept_add : (w : Workload) (h : List Event) (run : Run) (block : ℕ) → IsServed w h run
+    → is_live w h run.serial.0 ≡ true → Kept h → Kept (h ▹ Add Wb (request_for (adds h) run block))
+kept_add w h run block served live old = record {
   put_placed = λ b is. old.put_placed b (and_parts (not (covers r b)) (is_put_since h b) is).1;
   busy_placed = λ b is. elim (or_cases (covers r b) (list_any (λ x. covers x b) (unfinished h))
       (sym (any_pushed (λ x. covers x b) (unfinished h) r) ∙ is)) [
         | inl does ↦
-            (let ready = served_ready w h run b serves does
+            (let ready = served_ready w h run b served live does
             in let dirty = and_parts (is_dirty w h b) (not (is_busy w h b)) ready
             in old.put_placed b (and_parts (is_live_page w h b) (is_put_since h b) dirty.0).1)
         | inr was ↦ old.busy_placed b was
@@ -217,7 +215,7 @@ kept_add w h run serves old = record {
 }
   where
     r : Request
-    r = request_for w (adds h) run
+    r = request_for (adds h) run block
 
 kept_done : (w : Workload) (h : List Event) (k : ℕ) (r : Request) → IsFlying w h r → Kept h
     → Kept (h ▹ Done k r.id true)
@@ -241,34 +239,54 @@ kept_done w h k r fly old = record {
 }
 
 -- ---- every legal history
-kept_next : (w : Workload) (h : List Event) (e : Event) → Known w h → outstanding h ≡ unfinished h → Pins w h → Kept h
-    → Came w h e → Kept (h ▹ e)
-kept_next w h e f same pins old (came_enter q c has out) = kept_stay h (h ▹ e) (λ b. refl) (λ b. refl) refl refl old
-kept_next w h e f same pins old (came_admit q c has is out may) =
+kept_next : (w : Workload) (h : List Event) (e : Event) → IsKnown w h → Kept h → Came w h e → Kept (h ▹ e)
+kept_next w h e f old (came_enter q c has out) = kept_stay h (h ▹ e) (λ b. refl) (λ b. refl) refl refl old
+kept_next w h e f old (came_admit q c has is out may) =
     kept_stay h (h ▹ e) (λ b. refl) (λ b. refl) refl refl old
-kept_next w h e f same pins old (came_no_file q c admitted none) =
+kept_next w h e f old (came_make q name slot admitted idle unused at) =
     kept_stay h (h ▹ e) (λ b. refl) (λ b. refl) refl refl old
-kept_next w h e f same pins old (came_wrote q name off len fill s working none) =
+kept_next w h e f old (came_drop q name serial working idle) =
     kept_stay h (h ▹ e) (λ b. refl) (λ b. refl) refl refl old
-kept_next w h e f same pins old (came_read q name off len s working none) =
+kept_next w h e f old (came_no_file q c admitted none) =
     kept_stay h (h ▹ e) (λ b. refl) (λ b. refl) refl refl old
-kept_next w h e f same pins old (came_fault q c s piece working left bad) =
+kept_next w h e f old (came_changed q c admitted names acted) =
     kept_stay h (h ▹ e) (λ b. refl) (λ b. refl) refl refl old
-kept_next w h e f same pins old (came_put q name off len fill s piece here may) =
+kept_next w h e f old (came_exists q name admitted idle taken) =
+    kept_stay h (h ▹ e) (λ b. refl) (λ b. refl) refl refl old
+kept_next w h e f old (came_no_slot q name admitted idle unused none) =
+    kept_stay h (h ▹ e) (λ b. refl) (λ b. refl) refl refl old
+kept_next w h e f old (came_too_big q name off len fill s working big) =
+    kept_stay h (h ▹ e) (λ b. refl) (λ b. refl) refl refl old
+kept_next w h e f old (came_no_space q name off len fill s piece here out none) =
+    kept_stay h (h ▹ e) (λ b. refl) (λ b. refl) refl refl old
+kept_next w h e f old (came_wrote q name off len fill s working none) =
+    kept_stay h (h ▹ e) (λ b. refl) (λ b. refl) refl refl old
+kept_next w h e f old (came_read q name off len s working none) =
+    kept_stay h (h ▹ e) (λ b. refl) (λ b. refl) refl refl old
+kept_next w h e f old (came_fault q c s piece working left bad) =
+    kept_stay h (h ▹ e) (λ b. refl) (λ b. refl) refl refl old
+kept_next w h e f old (came_put q name off len fill s piece here may) =
     kept_put w h q (Write name off len fill) s piece fill here old
-kept_next w h e f same pins old (came_get q name off len s piece here held) =
+kept_next w h e f old (came_get q name off len s piece here held) =
     kept_stay h (h ▹ e) (λ b. refl) (λ b. refl) refl refl old
-kept_next w h e f same pins old (came_zeros q name off len s piece here absent none) =
+kept_next w h e f old (came_zeros q name off len s piece here absent none) =
     kept_stay h (h ▹ e) (λ b. refl) (λ b. refl) refl refl old
-kept_next w h e f same pins old (came_evict q c s piece here absent t g found) = kept_evict w h q t g found old
-kept_next w h e f same pins old (came_load q c s piece here absent block at) =
+kept_next w h e f old (came_evict q c s piece here absent t g found) = kept_evict w h q t g found old
+kept_next w h e f old (came_load q c s piece here absent block at) =
     kept_load w h q c s piece block here absent old
-kept_next w h e f same pins old (came_serve t g idle found) =
+kept_next w h e f old (came_serve run idle found) =
     kept_stay h (h ▹ e) (λ b. refl) (λ b. refl) refl refl old
-kept_next w h e f same pins old (came_add run at) = kept_add w h run (f.serves run at) old
-kept_next w h e f same pins old (came_send r free picked) =
+kept_next w h e f old (came_skip run at gone) =
     kept_stay h (h ▹ e) (λ b. refl) (λ b. refl) refl refl old
-kept_next w h e f same pins old (came_done k r at) = kept_done w h k r (flying w h k r f same pins at) old
+kept_next w h e f old (came_map run free serves there none at) =
+    kept_stay h (h ▹ e) (λ b. refl) (λ b. refl) refl refl old
+kept_next w h e f old (came_grow run block serves there at short) =
+    kept_stay h (h ▹ e) (λ b. refl) (λ b. refl) refl refl old
+kept_next w h e f old (came_add run block at there placed known) =
+    kept_add w h run block (f.served run at) there old
+kept_next w h e f old (came_send r free picked) =
+    kept_stay h (h ▹ e) (λ b. refl) (λ b. refl) refl refl old
+kept_next w h e f old (came_done k r at) = kept_done w h k r (flying w h k r f at) old
 
 pub kept : (w : Workload) (h : List Event) → IsAccepted w → IsLegal w h → Kept h
 kept w [] accepted legal = record {
@@ -278,5 +296,4 @@ kept w [] accepted legal = record {
   reads_absent = λ b is. absurd (cc);
 }
 kept w (h ▹ e) accepted legal =
-    kept_next w h e (known w h accepted legal.1) (all_done_well w h legal.1) (pins w h accepted legal.1)
-    (kept w h accepted legal.1) (came w h (maker e) e legal.0)
+    kept_next w h e (is_known w h accepted legal.1) (kept w h accepted legal.1) (came w h (maker e) e legal.0)

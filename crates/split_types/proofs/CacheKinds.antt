@@ -1,5 +1,5 @@
 -- What is dirty or busy is held; what is loading is nothing else, and is read once, from its block.
-use Rattle.std.proofs.Common.{◌≡◌, ℕ, List, [], slice_get, Bool, true, false, ◌&&◌, Some, refl, arith, sym, subst, inl, inr}
+use Rattle.std.proofs.Common.{◌≡◌, ℕ, List, [], slice_get, Bool, true, false, ◌&&◌, Some, refl, arith, sym, subst, inl, inr, ap, ◌∙◌}
 use Rattle.std.specs.List.{list_any}
 use Rattle.std.proofs.lemmas.Bool.{and_from, and_parts, and_right, both_ways, false_from_ne_true, or_cases, or_right}
 use Rattle.split_types.specs.declared.actor.Actor.{Actor}
@@ -14,6 +14,8 @@ use Rattle.split_types.specs.Requests.{requests, unfinished}
 use Rattle.split_types.specs.Pages.{is_live_page, is_put_since, is_dirty, is_busy}
 use Rattle.split_types.specs.Reads.{reads, outstanding, is_loading}
 use Rattle.split_types.specs.HeldPages.{is_placed}
+use Rattle.split_types.specs.FileMaps.{mapped_block}
+use Rattle.split_types.specs.FilesInOrder.{all_files}
 use Rattle.split_types.specs.PagesInCache.{IsPlaced, UnsettledAreHeld, IsOnlyLoading, ReadsBlock, LoadingPages}
 use Rattle.split_types.specs.Accepted.{IsAccepted}
 use Rattle.split_types.specs.Legal.{IsLegal}
@@ -73,7 +75,7 @@ only_loading w h b accepted legal loading = record {
 added_one : (w : Workload) (h : List Event) (by : Actor) (q : Request) (b : Buf) → Came w h (Add by q)
     → reads q b ≡ true → q.n ≡ 1
 added_one w h by q b (came_load p c s piece here absent block at) does = refl
-added_one w h by q b (came_add run at) does = absurd (both_ways false refl does)
+added_one w h by q b (came_add run block at there placed known) does = absurd (both_ways false refl does)
 
 read_one : (w : Workload) (h : List Event) (i : ℕ) (r : Request) (b : Buf) → IsLegal w h
     → slice_get (requests h) i ≡ Some r → reads r b ≡ true → r.n ≡ 1
@@ -88,18 +90,20 @@ read_one w (h ▹ Add by q) i r b legal at does = elim (slice_get-push (requests
 read_one w (h ▹ e) i r b legal at does = read_one w h i r b legal.1 at does
 
 reads_block : (w : Workload) (h : List Event) (i : ℕ) (r : Request) (b : Buf) → IsAccepted w → IsLegal w h
-    → slice_get (requests h) i ≡ Some r → reads r b ≡ true → ReadsBlock w r b
+    → slice_get (requests h) i ≡ Some r → reads r b ≡ true → ReadsBlock w h r b
 reads_block w h i r b accepted legal at does =
     let run = (known w h accepted legal).runs i r at
-    in let one = read_one w h i r b legal at does
     in record {
       serial = run.serial;
       page = run.page;
-      is = read_moved w r b run does;
+      is = read_moved (all_files w h) (mapped_block w h) r b run does;
       file = run.run.file;
-      within = omega (arith, run.run.within, one);
-      one = one;
-      place = run.place;
+      within = omega (arith, run.run.within, run.run.some);
+      one = read_one w h i r b legal at does;
+      place =
+          ap (mapped_block w h run.serial.0) (omega arith)
+          ∙ run.place 0 (omega (arith, run.run.some))
+          ∙ ap Some (omega arith);
     }
 
 pub loading_pages : LoadingPages

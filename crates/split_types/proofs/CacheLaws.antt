@@ -1,8 +1,8 @@
 -- What is known of the pages of a cache: what is dirty or busy was put or loaded, what is loading wasn't, and one
 -- request at most reads a page.
-use Rattle.std.proofs.Common.{◌≡◌, ℕ, ◌+◌, ◌-◌, ◌<◌, ◌≤◌, List, [], ◌∷◌, length, slice_get, filter, count_by, nat_lt, Bool, true, false, not, ◌&&◌, Some, refl, arith, subst, sym, inl, inr, cond, ap, ◌∙◌}
+use Rattle.std.proofs.Common.{◌≡◌, ℕ, ◌+◌, ◌-◌, ◌<◌, ◌≤◌, List, [], ◌∷◌, slice_get, filter, count_by, nat_lt, Bool, true, false, not, ◌&&◌, ◌||◌, Option, Some, refl, arith, subst, sym, inl, inr, cond, ap, ◌∙◌}
 use Rattle.std.specs.List.{list_any}
-use Rattle.std.proofs.lemmas.Bool.{and_parts, cases_Bool, lt-ltb}
+use Rattle.std.proofs.lemmas.Bool.{and_parts, cases_Bool}
 use Rattle.std.proofs.lemmas.Bool.Decides.{nat_tests}
 use Rattle.std.proofs.lemmas.List.Sums.{sum_by-cons}
 use Rattle.std.proofs.lemmas.List.Filters.{sum_by-filter_both}
@@ -18,6 +18,7 @@ use Rattle.split_types.specs.declared.request.Request.{Request}
 use Rattle.split_types.specs.declared.request.Run.{Run}
 use Rattle.split_types.specs.declared.workload.Workload.{Workload}
 use Rattle.split_types.specs.declared.event.Event.{Event}
+use Rattle.split_types.specs.declared.event.Event.TheVariants.{Make, Drop}
 use Rattle.split_types.specs.History.{◌▹◌}
 use Rattle.split_types.specs.Hooks.{is_among, covers}
 use Rattle.split_types.specs.Requests.{is_numbered, requests, in_flight, unfinished}
@@ -25,14 +26,21 @@ use Rattle.split_types.specs.Files.{is_live, bound_file}
 use Rattle.split_types.specs.Pages.{is_live_page, is_put_since, is_dirty, is_busy, is_ready}
 use Rattle.split_types.specs.Pieces.{Piece}
 use Rattle.split_types.specs.Reads.{reads, outstanding, request_numbered}
-use Rattle.split_types.specs.Proving.Came.{Came, IsAtPiece}
-use Rattle.split_types.specs.Proving.Came.Came.{came_enter, came_admit, came_no_file, came_wrote, came_read, came_fault, came_put, came_get, came_zeros, came_evict, came_load, came_serve, came_add, came_send, came_done}
-use Rattle.split_types.specs.Proving.Runs.{MovesRun, ServesReady, readiness}
+use Rattle.split_types.specs.Writeback.{service, served_run}
+use Rattle.split_types.specs.FileMaps.{mapped_block}
+use Rattle.split_types.specs.FilesInOrder.{all_files}
+use Rattle.split_types.specs.MapsInOrder.{IsServed}
+use Rattle.split_types.specs.PagesInCache.{is_page_of}
+use Rattle.split_types.specs.Accepted.{IsAccepted}
+use Rattle.split_types.specs.Legal.{IsLegal}
+use Rattle.split_types.specs.Proving.Came.{IsAtPiece}
+use Rattle.split_types.specs.Proving.Runs.{MovesRun}
 use Rattle.split_types.specs.Proving.Known.{Known}
 use Rattle.split_types.proofs.Lists.{count_none, any_counted, none_counted, filter_one, find_some}
-use Rattle.split_types.proofs.PutLaws.{live_of}
-use Rattle.split_types.proofs.NumberLaws.{flying_there}
-use Rattle.split_types.proofs.PinLaws.{Pins}
+use Rattle.split_types.proofs.FileLaws.{live_of}
+use Rattle.split_types.proofs.KnownLaws.{maps_known, known}
+use Rattle.split_types.proofs.NumberLaws.{all_done_well, flying_there}
+use Rattle.split_types.proofs.PinLaws.{Pins, pins}
 use Rattle.split_types.proofs.HeldLaws.{same_buf-is}
 
 -- ---- tests on lists
@@ -67,25 +75,38 @@ pub live_here : (w : Workload) (h : List Event) (p : Pid) (c : Call) (s : Serial
     → IsAtPiece w h p c s piece → is_live w h s.0 ≡ true
 live_here w h p c s piece here = live_of w h (bound_file w h p.0) s here.working.file
 
--- no event that comes next makes a file, or drops one
-pub live_stays : (w : Workload) (h : List Event) (e : Event) (b : Buf) → Came w h e
-    → is_live_page w (h ▹ e) b ≡ is_live_page w h b
-live_stays w h e (Page s g) (came_enter q c has out) = refl
-live_stays w h e (Page s g) (came_admit q c has is out may) = refl
-live_stays w h e (Page s g) (came_no_file q c admitted none) = refl
-live_stays w h e (Page s g) (came_wrote q name off len fill t working none) = refl
-live_stays w h e (Page s g) (came_read q name off len t working none) = refl
-live_stays w h e (Page s g) (came_fault q c t piece working left bad) = refl
-live_stays w h e (Page s g) (came_put q name off len fill t piece here may) = refl
-live_stays w h e (Page s g) (came_get q name off len t piece here held) = refl
-live_stays w h e (Page s g) (came_zeros q name off len t piece here absent none) = refl
-live_stays w h e (Page s g) (came_evict q c t piece here absent u k found) = refl
-live_stays w h e (Page s g) (came_load q c t piece here absent block at) = refl
-live_stays w h e (Page s g) (came_serve t k idle found) = refl
-live_stays w h e (Page s g) (came_add run at) = refl
-live_stays w h e (Page s g) (came_send r free picked) = refl
-live_stays w h e (Page s g) (came_done k r at) = refl
-live_stays w h e b c = refl
+-- after an event the page is one of a file that is there
+abbrev pub live_after : Workload → List Event → Event → Buf → Bool
+live_after w h (Make by slot serial) b = is_page_of serial b || is_live_page w h b
+live_after w h (Drop by slot serial) b = not (is_page_of serial b) && is_live_page w h b
+live_after w h e b = is_live_page w h b
+
+-- an event makes a file, or drops one, or does neither
+pub live_changes : (w : Workload) (h : List Event) (e : Event) (b : Buf)
+    → is_live_page w (h ▹ e) b ≡ live_after w h e b
+live_changes w h (Make by slot serial) (Page s g) = refl
+live_changes w h (Drop by slot serial) (Page s g) = refl
+live_changes w h e (Page s g) = refl
+live_changes w h (Make by slot serial) b = refl
+live_changes w h (Drop by slot serial) b = refl
+live_changes w h e b = refl
+
+-- ---- what is known before an event
+-- what is known after a history: of its requests, of the pages that are kept for processes, and of the run that is
+-- served
+pub record IsKnown (w : Workload) (h : List Event) : Type 0 where
+  pub known : Known w h
+  pub well : outstanding h ≡ unfinished h
+  pub kept_pages : Pins w h
+  pub served : (run : Run) → served_run (service h) ≡ Some run → IsServed w h run
+
+pub is_known : (w : Workload) (h : List Event) → IsAccepted w → IsLegal w h → IsKnown w h
+is_known w h accepted legal = record {
+  known = known w h accepted legal;
+  well = all_done_well w h legal;
+  kept_pages = pins w h accepted legal;
+  served = λ run at. maps_known.served w h run accepted legal at;
+}
 
 -- ---- what requests read and write
 -- the request reads this page
@@ -147,13 +168,10 @@ among_at s g n b is = absurd (cc)
 kind_read : (p q : Pid) (s t : Serial) (g k : ℕ) → Read p s g ≡ Read q t k → (s ≡ t) × (g ≡ k)
 kind_read p q s t g k e = (cc, cc)
 
-kind_pages : (s t : Serial) (g k : ℕ) → Pages s g ≡ Pages t k → (s ≡ t) × (g ≡ k)
-kind_pages s t g k e = (cc, cc)
-
--- what a request reads or writes is the page of its run
-pub read_moved : (w : Workload) (r : Request) (b : Buf) (run : MovesRun w r) → reads r b ≡ true
-    → b ≡ Page run.serial run.page
-read_moved w r b run does =
+-- what a request reads is the page of its run
+pub read_moved : (total : ℕ) (block_of : ℕ → ℕ → Option ℕ) (r : Request) (b : Buf) (run : MovesRun total block_of r)
+    → reads r b ≡ true → b ≡ Page run.serial run.page
+read_moved total block_of r b run does =
     let at = read_page r b does
     in elim run.kind [
       | inl pages ↦
@@ -163,43 +181,12 @@ read_moved w r b run does =
           in at.is ∙ ap (λ s. Page s at.page) same.0 ∙ ap (Page run.serial) same.1)
     ]
 
-pub written_moved : (w : Workload) (r : Request) (b : Buf) (run : MovesRun w r) → covers r b ≡ true
-    → IsAfter run.serial run.page r.n b
-written_moved w r b run does =
-    let at = written_page r b does
-    in elim run.kind [
-      | inl pages ↦
-          (let same = kind_pages at.serial run.serial at.page run.page (sym at.kind ∙ pages)
-          in among_at run.serial run.page r.n b
-          (subst (λ g. is_among run.serial g r.n b ≡ true) same.1
-          (subst (λ s. is_among s at.page r.n b ≡ true) same.0 at.among)))
-      | inr read ↦
-          absurd (let e : Pages at.serial at.page ≡ Read read.0 run.serial run.page = sym at.kind ∙ read.1 in cc)
-    ]
-
--- it is a page of a file that is there
-pub preset_live : (w : Workload) (h : List Event) (s : Serial) → Known w h → s.0 < length w.files
-    → is_live w h s.0 ≡ true
-preset_live w h s f below = f.files.live_is s.0 ∙ lt-ltb s.0 (length w.files) below
-
-pub read_live : (w : Workload) (h : List Event) (r : Request) (b : Buf) → Known w h → MovesRun w r
-    → reads r b ≡ true → is_live_page w h b ≡ true
-read_live w h r b f run does =
-    subst (λ x. is_live_page w h x ≡ true) (sym (read_moved w r b run does))
-    (preset_live w h run.serial f run.run.file)
-
-pub written_live : (w : Workload) (h : List Event) (r : Request) (b : Buf) → Known w h → MovesRun w r
-    → covers r b ≡ true → is_live_page w h b ≡ true
-written_live w h r b f run does =
-    subst (λ x. is_live_page w h x ≡ true) (sym (written_moved w r b run does).is)
-    (preset_live w h run.serial f run.run.file)
-
--- each page of the run that is served is ready
-pub served_ready : (w : Workload) (h : List Event) (run : Run) (b : Buf) → ServesReady w (readiness w h) run
-    → is_among run.serial run.page run.n b ≡ true → is_ready w h b ≡ true
-served_ready w h run b serves among =
+-- each page of the run that is served is ready, while its file is there
+pub served_ready : (w : Workload) (h : List Event) (run : Run) (b : Buf) → IsServed w h run
+    → is_live w h run.serial.0 ≡ true → is_among run.serial run.page run.n b ≡ true → is_ready w h b ≡ true
+served_ready w h run b served live among =
     let at = among_at run.serial run.page run.n b among
-    in subst (λ x. is_ready w h x ≡ true) (sym at.is) (serves.all_ready at.after at.below)
+    in subst (λ x. is_ready w h x ≡ true) (sym at.is) (served.ready live at.after at.below)
 
 -- and so it is there
 pub ready_live : (w : Workload) (h : List Event) (b : Buf) → is_ready w h b ≡ true → is_live_page w h b ≡ true
@@ -211,7 +198,7 @@ ready_live w h b ready =
 -- what is known of a request in flight: it is the one of its number among all, and among those that aren't done
 pub record IsFlying (w : Workload) (h : List Event) (r : Request) : Type 0 where
   pub added : slice_get (requests h) r.id.0 ≡ Some r
-  pub run : MovesRun w r
+  pub run : MovesRun (all_files w h) (mapped_block w h) r
   pub place : ℕ
   pub left : slice_get (unfinished h) place ≡ Some r
   pub out : slice_get (outstanding h) place ≡ Some r
@@ -219,23 +206,23 @@ pub record IsFlying (w : Workload) (h : List Event) (r : Request) : Type 0 where
   pub out_once : count_by (is_numbered r.id) (outstanding h) ≤ 1
   pub numbered : request_numbered h r.id ≡ Some r
 
-pub flying : (w : Workload) (h : List Event) (k : ℕ) (r : Request) → Known w h → outstanding h ≡ unfinished h
-    → Pins w h → slice_get (in_flight h) k ≡ Some r → IsFlying w h r
-flying w h k r f same pins at =
-    let added = f.waiting.flight_of k r at
-    in let left = flying_there w h k r f at
-    in let out : slice_get (outstanding h) left.0 ≡ Some r = ap (λ l. slice_get l left.0) same ∙ left.1
+pub flying : (w : Workload) (h : List Event) (k : ℕ) (r : Request) → IsKnown w h → slice_get (in_flight h) k ≡ Some r
+    → IsFlying w h r
+flying w h k r f at =
+    let added = f.known.waiting.flight_of k r at
+    in let left = flying_there w h k r f.known at
+    in let out : slice_get (outstanding h) left.0 ≡ Some r = ap (λ l. slice_get l left.0) f.well ∙ left.1
     in let once : count_by (is_numbered r.id) (unfinished h) ≤ 1 =
-    omega (arith, f.waiting.once r.id, f.waiting.left_once r.id)
+    omega (arith, f.known.waiting.once r.id, f.known.waiting.left_once r.id)
     in record {
       added = added;
-      run = f.runs r.id.0 r added;
+      run = f.known.runs r.id.0 r added;
       place = left.0;
       left = left.1;
       out = out;
       once = once;
-      out_once = subst (λ l. count_by (is_numbered r.id) l ≤ 1) (sym same) once;
-      numbered = pins.named left.0 r out;
+      out_once = subst (λ l. count_by (is_numbered r.id) l ≤ 1) (sym f.well) once;
+      numbered = f.kept_pages.named left.0 r out;
     }
 
 -- no two requests that weren't done well write one page

@@ -9,9 +9,8 @@ use Rattle.split_types.specs.declared.event.Event.{Event}
 use Rattle.split_types.specs.declared.event.Event.TheVariants.{Put, Get, Done}
 use Rattle.split_types.specs.History.{◌▹◌}
 use Rattle.split_types.specs.Hooks.{maker, same_buf}
-use Rattle.split_types.specs.Requests.{unfinished}
 use Rattle.split_types.specs.Pages.{is_live_page}
-use Rattle.split_types.specs.Reads.{reads, outstanding, is_loading, is_read_of}
+use Rattle.split_types.specs.Reads.{reads, is_loading, is_read_of}
 use Rattle.split_types.specs.HeldPages.{is_placed}
 use Rattle.split_types.specs.Victims.{last_touch}
 use Rattle.split_types.specs.PagesInCache.{TouchAfter, IsThere, TouchesChange}
@@ -19,27 +18,21 @@ use Rattle.split_types.specs.Accepted.{IsAccepted}
 use Rattle.split_types.specs.Legal.{IsLegal}
 use Rattle.split_types.specs.Proving.Came.{Came}
 use Rattle.split_types.specs.Proving.Came.Came.{came_done}
-use Rattle.split_types.specs.Proving.Known.{Known}
 use Rattle.split_types.proofs.CameLaws.{came}
-use Rattle.split_types.proofs.KnownLaws.{known}
 use Rattle.split_types.proofs.VictimLaws.{touched_before, same_touch}
-use Rattle.split_types.proofs.NumberLaws.{all_done_well}
-use Rattle.split_types.proofs.PinLaws.{Pins, pins}
-use Rattle.split_types.proofs.CacheLaws.{flying}
+use Rattle.split_types.proofs.CacheLaws.{IsKnown, is_known, flying}
 
-touch_next : (w : Workload) (h : List Event) (e : Event) (b : Buf) → Known w h → outstanding h ≡ unfinished h
-    → Pins w h → Came w h e → TouchAfter h e b
-touch_next w h e b f same all (came_done k r at) = λ x there.
-    (let fly = flying w h k r f same all at
+touch_next : (w : Workload) (h : List Event) (e : Event) (b : Buf) → IsKnown w h → Came w h e → TouchAfter h e b
+touch_next w h e b f (came_done k r at) = λ x there.
+    (let fly = flying w h k r f at
     in ap (λ o. if elim o [ None ↦ false | Some y ↦ reads y b ] then length h else last_touch h b) fly.numbered
     ∙ ap (λ y. if reads y b then length h else last_touch h b) (same_Some r x (sym fly.added ∙ there)))
-touch_next w h e b f same all c = refl
+touch_next w h e b f c = refl
 
 touch_change : (w : Workload) (h : List Event) (e : Event) (b : Buf) → IsAccepted w → IsLegal w (h ▹ e)
     → TouchAfter h e b
 touch_change w h e b accepted legal =
-    touch_next w h e b (known w h accepted legal.1) (all_done_well w h legal.1) (pins w h accepted legal.1)
-    (came w h (maker e) e legal.0)
+    touch_next w h e b (is_known w h accepted legal.1) (came w h (maker e) e legal.0)
 
 -- ---- the places of touches
 later : (t : Bool) (old n : ℕ) → old ≤ n → (if t then n else old) ≤ n + 1

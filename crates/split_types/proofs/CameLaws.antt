@@ -1,42 +1,49 @@
 -- Every next event comes from one of the rows, and is made by the actor that was asked.
-use Rattle.std.proofs.Common.{◌≡◌, ℕ, List, length, slice_get, Bool, true, false, not, ◌&&◌, ◌||◌, Option, Some, None, refl, arith, subst, ap, option_map, nat_lt, nat_le, if◌then◌else◌}
-use Rattle.std.specs.Prelude.{find, is_none, IsTrue, IsFalse}
+use Rattle.std.proofs.Common.{◌≡◌, ℕ, ◌+◌, ◌≤◌, List, length, slice_get, Bool, true, false, not, ◌&&◌, ◌||◌, Option, Some, None, refl, arith, subst, ap, option_map, nat_lt, nat_le, if◌then◌else◌}
+use Rattle.std.specs.Prelude.{is_none, IsTrue, IsFalse}
 use Rattle.std.proofs.lemmas.Bool.{not-true, not-false, or_left, or_right, not_from_false}
 use Rattle.std.proofs.lemmas.Bool.Decides.{nat_tests}
 use Rattle.std.proofs.lemmas.Option.{same_Some}
 use Rattle.split_types.specs.declared.ids.Pid.{Pid}
 use Rattle.split_types.specs.declared.ids.Serial.{Serial}
 use Rattle.split_types.specs.declared.buf.Buf.{Buf}
-use Rattle.split_types.specs.declared.buf.Buf.TheVariants.{Page, Bitmap, Dir, Inode}
+use Rattle.split_types.specs.declared.buf.Buf.TheVariants.{Page}
 use Rattle.split_types.specs.declared.call.Call.{Call}
-use Rattle.split_types.specs.declared.call.Call.TheVariants.{Write, Read}
+use Rattle.split_types.specs.declared.call.Call.TheVariants.{Creat, Write, Read, Fsync, Unlink}
 use Rattle.split_types.specs.declared.call.Reply.TheVariants as reply
 use Rattle.split_types.specs.declared.actor.Actor.{Actor}
 use Rattle.split_types.specs.declared.actor.Actor.TheVariants.{Client, Wb, Cm, Dq, Dn, Tk}
 use Rattle.split_types.specs.declared.request.Run.{Run}
+use Rattle.split_types.specs.declared.request.Service.{Service}
+use Rattle.split_types.specs.declared.request.Service.TheVariants.{Idle, Serving, Mapped}
 use Rattle.split_types.specs.declared.workload.Workload.{Workload}
 use Rattle.split_types.specs.declared.event.Event.{Event}
-use Rattle.split_types.specs.declared.event.Event.TheVariants.{Enter, Admit, Put, Get, Ret, Serve, Add, Done, Evict}
+use Rattle.split_types.specs.declared.event.Event.TheVariants.{Enter, Admit, Make, Put, Get, Drop, Ret, Serve, Skip, Add, Done, Evict}
 use Rattle.split_types.specs.Rows.{◌⇒◌∣◌}
 use Rattle.split_types.specs.History.{adds}
 use Rattle.split_types.specs.Hooks.{maker}
 use Rattle.split_types.specs.Requests.{in_flight}
-use Rattle.split_types.specs.Pages.{is_ready}
-use Rattle.split_types.specs.Workloads.{all_pages}
-use Rattle.split_types.specs.Calls.{returned, is_entered, is_admitted, moved, call_of}
+use Rattle.split_types.specs.Files.{is_live, is_name_taken}
+use Rattle.split_types.specs.Calls.{returned, is_entered, is_admitted, has_acted, moved, call_of}
 use Rattle.split_types.specs.Schedulers.{admits, pick}
 use Rattle.split_types.specs.Reads.{is_loading, is_read_badly}
 use Rattle.split_types.specs.HeldPages.{is_held, is_full, is_unsettled, is_crowded}
 use Rattle.split_types.specs.Victims.{victim}
-use Rattle.split_types.specs.FileSizes.{working_file}
-use Rattle.split_types.specs.FileMaps.{mapped_block}
+use Rattle.split_types.specs.FileSizes.{disk_size_of, working_file}
+use Rattle.split_types.specs.FileMaps.{mapped_block, is_without_space, is_in_mapped_run}
+use Rattle.split_types.specs.LiveFiles.{free_slot}
+use Rattle.split_types.specs.FileSlots.{live_files, next_serial, slot_of, slot_of_some}
+use Rattle.split_types.specs.ServedRuns.{run_to_serve, free_run}
 use Rattle.split_types.specs.PageBytes.{sum_of_bytes}
 use Rattle.split_types.specs.Pieces.{Piece, is_whole, piece_left, got}
-use Rattle.split_types.specs.Clients.{piece_state, client_state, state_left, evict_of, next_of_absent, next_of_put, next_of_load, next_of_get, next_on_file, next_of_admitted, next_of_call, next_of_client}
-use Rattle.split_types.specs.Writeback.{service, served_run, run_length, request_for, next_serve, serve_from}
+use Rattle.split_types.specs.Clients.{piece_state, client_state, state_left, most_bytes, evict_of, next_of_absent, next_of_put, next_of_load, next_of_get, next_of_write, next_on_file, make_in, next_of_bound, next_of_creat, next_of_admitted, next_of_call, next_of_client}
+use Rattle.split_types.specs.Writeback.{service, served_run}
+use Rattle.split_types.specs.Serving.{service_state, bytes_up_to, map_of, request_for, next_of_placed, next_of_serving, next_of_mapped, next_in_service}
 use Rattle.split_types.specs.Next.{send_of, next}
-use Rattle.split_types.specs.Proving.Came.{Came, HasCall, IsAdmitted, IsWorking, IsAtPiece, IsAbsent, read_request}
-use Rattle.split_types.specs.Proving.Came.Came.{came_enter, came_admit, came_no_file, came_wrote, came_read, came_fault, came_put, came_get, came_zeros, came_evict, came_load, came_serve, came_add, came_send, came_done}
+use Rattle.split_types.specs.Proving.Came.{Came, HasCall, IsAdmitted, IsWorking, IsOfNames, IsAtPiece, IsAbsent, read_request}
+use Rattle.split_types.specs.Proving.Came.Came.{came_enter, came_admit, came_changed, came_exists, came_no_slot, came_make, came_drop, came_no_file, came_too_big}
+use Rattle.split_types.specs.Proving.Came.Came.{came_wrote, came_read, came_fault, came_no_space, came_put, came_get, came_zeros, came_evict, came_load}
+use Rattle.split_types.specs.Proving.Came.Came.{came_serve, came_skip, came_map, came_grow, came_add, came_send, came_done}
 
 -- a row decides, or the rows below it do
 pub by_row : {A C : Type 0} (b : Bool) (x y e : A) → (b ⇒ x ∣ y) ≡ e → (b ≡ true → x ≡ e → C)
@@ -84,10 +91,11 @@ calm false false is = refl
 -- of a write, in a page that isn't held, where a place is free
 in_absent : (w : Workload) (h : List Event) (p : Pid) (name : List ℕ) (off len fill : ℕ) (serial : Serial)
     (piece : Piece) (e : Event) → IsAtPiece w h p (Write name off len fill) serial piece
+    → IsFalse (is_in_mapped_run h (Page serial piece.page)) → IsFalse (is_without_space w h (Page serial piece.page))
     → IsTrue (is_unsettled w h (Page serial piece.page) || not (is_crowded w h))
     → IsAbsent w h (Page serial piece.page) false
     → next_of_absent (piece_state w h p serial piece) fill ≡ Some e → Comes w h (Client p) e
-in_absent w h p name off len fill serial piece e here settles absent n =
+in_absent w h p name off len fill serial piece e here out space settles absent n =
     by_row (is_whole piece) (Some (Put p serial piece.page piece.from piece.to fill)) _ (Some e) n
     (λ whole is. put (or_left _ _ whole) is)
     (λ part is. by_block (mapped_block w h serial.0 piece.page) refl is)
@@ -100,6 +108,8 @@ in_absent w h p name off len fill serial piece e here settles absent n =
     put known is =
         comes w h (Client p) (Put p serial piece.page piece.from piece.to fill) e
         (came_put p name off len fill serial piece here (record {
+          out = out;
+          space = space;
           settles = settles;
           room = or_right (is_held w h b) (not (is_full w h)) (not_from_false (is_full w h) absent.full);
           known = or_right (is_held w h b) _ known;
@@ -116,32 +126,37 @@ in_absent w h p name off len fill serial piece e here settles absent n =
         in_load w h p (Write name off len fill) serial piece e here absent block at is
 
 in_put : (w : Workload) (h : List Event) (p : Pid) (name : List ℕ) (off len fill : ℕ) (serial : Serial)
-    (piece : Piece) (e : Event) → IsWorking w h p (Write name off len fill) serial
+    (piece : Piece) (e : Event) → IsWorking w h p (Write name off len fill) serial → off + len ≤ most_bytes
     → piece_left w h p.0 ≡ Some piece → next_of_put (piece_state w h p serial piece) fill ≡ Some e
     → Comes w h (Client p) e
-in_put w h p name off len fill serial piece e working left n =
+in_put w h p name off len fill serial piece e working fits left n =
     by_row (is_read_badly h p.0 b) (Some (Ret p reply.ReadFault)) _ (Some e) n
     (λ bad is. comes w h (Client p) (Ret p reply.ReadFault) e
     (came_fault p (Write name off len fill) serial piece working left bad) refl is)
     (λ well rest. by_row (is_loading w h b) None _ (Some e) rest
     (λ loading is. absurd (cc))
-    (λ there is. at_page (record { working = working; left = left; well = well; there = there }) is))
+    (λ there below. by_row (is_in_mapped_run h b) None _ (Some e) below
+    (λ mapped is. absurd (cc))
+    (λ out is. at_space (record { working = working; fits = fits; left = left; well = well; there = there }) out is)))
   where
     b : Buf
     b = Page serial piece.page
 
-    at_page : IsAtPiece w h p (Write name off len fill) serial piece
+    at_page : IsAtPiece w h p (Write name off len fill) serial piece → IsFalse (is_in_mapped_run h b)
+        → IsFalse (is_without_space w h b)
         → (not (is_unsettled w h b) && is_crowded w h ⇒ None
         ∣ is_held w h b ⇒ Some (Put p serial piece.page piece.from piece.to fill)
         ∣ is_full w h ⇒ evict_of p (victim w h)
         ∣ next_of_absent (piece_state w h p serial piece) fill) ≡ Some e
         → Comes w h (Client p) e
-    at_page here next =
+    at_page here out space next =
         by_row (not (is_unsettled w h b) && is_crowded w h) None _ (Some e) next
         (λ waits is. absurd (cc))
         (λ goes rest. by_row (is_held w h b) (Some (Put p serial piece.page piece.from piece.to fill)) _ (Some e) rest
         (λ held is. comes w h (Client p) (Put p serial piece.page piece.from piece.to fill) e
         (came_put p name off len fill serial piece here (record {
+          out = out;
+          space = space;
           settles = calm (is_unsettled w h b) (is_crowded w h) goes;
           room = or_left (is_held w h b) _ held;
           known = or_left (is_held w h b) _ held;
@@ -149,8 +164,21 @@ in_put w h p name off len fill serial piece e working left n =
         (λ absent below. by_row (is_full w h) (evict_of p (victim w h)) _ (Some e) below
         (λ full is. in_evict w h p (Write name off len fill) serial piece e here
         (record { absent = absent; full = full }) (victim w h) refl is)
-        (λ roomy is. in_absent w h p name off len fill serial piece e here
+        (λ roomy is. in_absent w h p name off len fill serial piece e here out space
         (calm (is_unsettled w h b) (is_crowded w h) goes) (record { absent = absent; full = roomy }) is)))
+
+    at_space : IsAtPiece w h p (Write name off len fill) serial piece → IsFalse (is_in_mapped_run h b)
+        → (is_without_space w h b ⇒ Some (Ret p (reply.NoSpace (moved h p.0)))
+        ∣ not (is_unsettled w h b) && is_crowded w h ⇒ None
+        ∣ is_held w h b ⇒ Some (Put p serial piece.page piece.from piece.to fill)
+        ∣ is_full w h ⇒ evict_of p (victim w h)
+        ∣ next_of_absent (piece_state w h p serial piece) fill) ≡ Some e
+        → Comes w h (Client p) e
+    at_space here out next =
+        by_row (is_without_space w h b) (Some (Ret p (reply.NoSpace (moved h p.0)))) _ (Some e) next
+        (λ none is. comes w h (Client p) (Ret p (reply.NoSpace (moved h p.0))) e
+        (came_no_space p name off len fill serial piece here out none) refl is)
+        (λ space rest. at_page here out space rest)
 
 in_get : (w : Workload) (h : List Event) (p : Pid) (name : List ℕ) (off len : ℕ) (serial : Serial) (piece : Piece)
     (e : Event) → IsWorking w h p (Read name off len) serial → piece_left w h p.0 ≡ Some piece
@@ -161,7 +189,7 @@ in_get w h p name off len serial piece e working left n =
     (came_fault p (Read name off len) serial piece working left bad) refl is)
     (λ well rest. by_row (is_loading w h b) None _ (Some e) rest
     (λ loading is. absurd (cc))
-    (λ there is. at_page (record { working = working; left = left; well = well; there = there }) is))
+    (λ there is. at_page (record { working = working; fits = tt; left = left; well = well; there = there }) is))
   where
     b : Buf
     b = Page serial piece.page
@@ -201,16 +229,17 @@ in_get w h p name off len serial piece e working left n =
 
 -- ---- calls
 in_write : (w : Workload) (h : List Event) (p : Pid) (name : List ℕ) (off len fill : ℕ) (serial : Serial) (e : Event)
-    → IsWorking w h p (Write name off len fill) serial → (o : Option Piece) → piece_left w h p.0 ≡ o
+    → IsWorking w h p (Write name off len fill) serial → off + len ≤ most_bytes → (o : Option Piece)
+    → piece_left w h p.0 ≡ o
     → (elim (option_map (piece_state w h p serial) o) [
       | None ↦ Some (Ret p reply.Done)
       | Some s ↦ next_of_put s fill
     ]) ≡ Some e
     → Comes w h (Client p) e
-in_write w h p name off len fill serial e working None left is =
+in_write w h p name off len fill serial e working fits None left is =
     comes w h (Client p) (Ret p reply.Done) e (came_wrote p name off len fill serial working left) refl is
-in_write w h p name off len fill serial e working (Some piece) left is =
-    in_put w h p name off len fill serial piece e working left is
+in_write w h p name off len fill serial e working fits (Some piece) left is =
+    in_put w h p name off len fill serial piece e working fits left is
 
 in_read : (w : Workload) (h : List Event) (p : Pid) (name : List ℕ) (off len : ℕ) (serial : Serial) (e : Event)
     → IsWorking w h p (Read name off len) serial → (o : Option Piece) → piece_left w h p.0 ≡ o
@@ -226,31 +255,71 @@ in_read w h p name off len serial e working (Some piece) left is =
     in_get w h p name off len serial piece e working left is
 
 on_file : (w : Workload) (h : List Event) (p : Pid) (c : Call) (serial : Serial) (e : Event)
-    → IsWorking w h p c serial → next_on_file (client_state w h p) c ≡ Some e → Comes w h (Client p) e
-on_file w h p (Write name off len fill) serial e working n =
-    in_write w h p name off len fill serial e working (piece_left w h p.0) refl
+    → IsWorking w h p c serial → (IsOfNames c → IsFalse (has_acted h p.0))
+    → next_on_file (client_state w h p) c serial ≡ Some e → Comes w h (Client p) e
+on_file w h p (Write name off len fill) serial e working idle n =
+    by_row (nat_lt most_bytes (off + len)) (Some (Ret p reply.TooBig)) (next_of_write (client_state w h p) fill)
+    (Some e) n
+    (λ big is. comes w h (Client p) (Ret p reply.TooBig) e
+    (came_too_big p name off len fill serial working (grind (arith, nat_tests))) refl is)
+    (λ fits is. in_write w h p name off len fill serial e working (grind (arith, nat_tests)) (piece_left w h p.0) refl
     (subst (λ o. (elim (state_left w h p o) [
       | None ↦ Some (Ret p reply.Done)
       | Some s ↦ next_of_put s fill
-    ]) ≡ Some e) working.file n)
-on_file w h p (Read name off len) serial e working n =
+    ]) ≡ Some e) working.file is))
+on_file w h p (Unlink name) serial e working idle n =
+    comes w h (Client p) (Drop p (slot_of w h serial) serial) e (came_drop p name serial working (idle tt)) refl
+    (subst (λ o. Some (Drop p (slot_of_some w h o) serial) ≡ Some e) working.file n)
+on_file w h p (Read name off len) serial e working idle n =
     in_read w h p name off len serial e working (piece_left w h p.0) refl
     (subst (λ o. (elim (state_left w h p o) [
       | None ↦ Some (Ret p (reply.Count (moved h p.0) (got h p.0)))
       | Some s ↦ next_of_get s
     ]) ≡ Some e) working.file n)
-on_file w h p c serial e working n = absurd (cc)
+on_file w h p c serial e working idle n = absurd (cc)
 
-in_admitted : (w : Workload) (h : List Event) (p : Pid) (c : Call) (e : Event) → IsAdmitted w h p c
-    → next_of_admitted (client_state w h p) c ≡ Some e → Comes w h (Client p) e
-in_admitted w h p c e admitted n = by_file (working_file w h p.0) refl n
+in_bound : (w : Workload) (h : List Event) (p : Pid) (c : Call) (e : Event) → IsAdmitted w h p c
+    → (IsOfNames c → IsFalse (has_acted h p.0)) → next_of_bound (client_state w h p) c ≡ Some e
+    → Comes w h (Client p) e
+in_bound w h p c e admitted idle n = by_file (working_file w h p.0) refl n
   where
     by_file : (o : Option Serial) → working_file w h p.0 ≡ o
-        → (elim o [ None ↦ Some (Ret p reply.NoFile) | Some serial ↦ next_on_file (client_state w h p) c ]) ≡ Some e
+        → (elim o [ None ↦ Some (Ret p reply.NoFile) | Some serial ↦ next_on_file (client_state w h p) c serial ])
+        ≡ Some e
         → Comes w h (Client p) e
     by_file None file is =
         comes w h (Client p) (Ret p reply.NoFile) e (came_no_file p c admitted file) refl is
-    by_file (Some serial) file is = on_file w h p c serial e (record { admitted = admitted; file = file }) is
+    by_file (Some serial) file is = on_file w h p c serial e (record { admitted = admitted; file = file }) idle is
+
+in_creat : (w : Workload) (h : List Event) (p : Pid) (name : List ℕ) (e : Event) → IsAdmitted w h p (Creat name)
+    → next_of_creat (client_state w h p) ≡ Some e → Comes w h (Client p) e
+in_creat w h p name e admitted n =
+    by_row (has_acted h p.0) (Some (Ret p reply.Done)) _ (Some e) n
+    (λ acted is. comes w h (Client p) (Ret p reply.Done) e (came_changed p (Creat name) admitted tt acted) refl is)
+    (λ idle rest. by_row (is_name_taken w h (call_of w h p.0)) (Some (Ret p reply.Exists)) _ (Some e) rest
+    (λ taken is. comes w h (Client p) (Ret p reply.Exists) e (came_exists p name admitted idle taken) refl is)
+    (λ unused is. by_slot idle unused (free_slot (live_files w h)) refl is))
+  where
+    by_slot : IsFalse (has_acted h p.0) → IsFalse (is_name_taken w h (call_of w h p.0)) → (o : Option ℕ)
+        → free_slot (live_files w h) ≡ o → make_in (client_state w h p) o ≡ Some e → Comes w h (Client p) e
+    by_slot idle unused None at is =
+        comes w h (Client p) (Ret p reply.NoSlot) e (came_no_slot p name admitted idle unused at) refl is
+    by_slot idle unused (Some slot) at is =
+        comes w h (Client p) (Make p (record { 0 = slot }) (next_serial w h)) e
+        (came_make p name slot admitted idle unused at) refl is
+
+in_admitted : (w : Workload) (h : List Event) (p : Pid) (c : Call) (e : Event) → IsAdmitted w h p c
+    → next_of_admitted (client_state w h p) c ≡ Some e → Comes w h (Client p) e
+in_admitted w h p (Creat name) e admitted n = in_creat w h p name e admitted n
+in_admitted w h p (Unlink name) e admitted n =
+    by_row (has_acted h p.0) (Some (Ret p reply.Done)) (next_of_bound (client_state w h p) (Unlink name)) (Some e) n
+    (λ acted is. comes w h (Client p) (Ret p reply.Done) e (came_changed p (Unlink name) admitted tt acted) refl is)
+    (λ idle is. in_bound w h p (Unlink name) e admitted (λ names. idle) is)
+in_admitted w h p (Write name off len fill) e admitted n =
+    in_bound w h p (Write name off len fill) e admitted (λ names. absurd (names)) n
+in_admitted w h p (Read name off len) e admitted n =
+    in_bound w h p (Read name off len) e admitted (λ names. absurd (names)) n
+in_admitted w h p (Fsync name) e admitted n = in_bound w h p (Fsync name) e admitted (λ names. absurd (names)) n
 
 in_call : (w : Workload) (h : List Event) (p : Pid) (c : Call) (e : Event) → HasCall w h p c
     → next_of_call (client_state w h p) c ≡ Some e → Comes w h (Client p) e
@@ -286,20 +355,61 @@ by_client w h p e n =
     (λ test is. absurd (cc))
 
 -- ---- the others
-by_serve : (w : Workload) (h : List Event) (b : Buf) (e : Event) → served_run (service h) ≡ None
-    → find (is_ready w h) (all_pages w) ≡ Some b → serve_from w h b ≡ Some e → Comes w h Wb e
-by_serve w h (Page s g) e idle found at =
-    comes w h Wb (Serve s g (run_length w h s g)) e (came_serve s g idle found) refl at
-by_serve w h Bitmap e idle found at = absurd (cc)
-by_serve w h (Dir k) e idle found at = absurd (cc)
-by_serve w h (Inode s) e idle found at = absurd (cc)
+dropped : (w : Workload) (h : List Event) (run : Run) (rest : Option Event) (e : Event)
+    → served_run (service h) ≡ Some run → (not (is_live w h run.serial.0) ⇒ Some Skip ∣ rest) ≡ Some e
+    → (IsTrue (is_live w h run.serial.0) → rest ≡ Some e → Comes w h Wb e) → Comes w h Wb e
+dropped w h run rest e served n go =
+    by_row (not (is_live w h run.serial.0)) (Some Skip) rest (Some e) n
+    (λ gone is. comes w h Wb Skip e (came_skip run served (not-true _ gone)) refl is)
+    (λ there is. go (not-false _ there) is)
 
-by_writeback : (w : Workload) (h : List Event) (e : Event) (run : Option Run) → served_run (service h) ≡ run
-    → (elim run [ None ↦ next_serve w h | Some r ↦ Some (Add Wb (request_for w (adds h) r)) ]) ≡ Some e → Comes w h Wb e
-by_writeback w h e None is at =
-    by_some (find (is_ready w h) (all_pages w)) (serve_from w h) e at
-    (λ b found from. by_serve w h b e is found from)
-by_writeback w h e (Some r) is at = comes w h Wb (Add Wb (request_for w (adds h) r)) e (came_add r is) refl at
+by_serving : (w : Workload) (h : List Event) (run : Run) (e : Event) → service h ≡ Serving run
+    → IsTrue (is_live w h run.serial.0) → next_of_serving (service_state w h run) ≡ Some e → Comes w h Wb e
+by_serving w h run e serves there n = by_block (mapped_block w h run.serial.0 run.page) refl n
+  where
+    by_block : (o : Option ℕ) → mapped_block w h run.serial.0 run.page ≡ o
+        → (elim o [
+          | None ↦ elim (free_run w h run.n) [
+            | None ↦ None
+            | Some f ↦ Some (map_of (service_state w h run) f.n f.first true)
+          ]
+          | Some block ↦ next_of_placed (service_state w h run) block
+        ]) ≡ Some e
+        → Comes w h Wb e
+    by_block None at is =
+        by_some (free_run w h run.n) (λ f. Some (map_of (service_state w h run) f.n f.first true)) e is
+        (λ f free same. comes w h Wb (map_of (service_state w h run) f.n f.first true) e
+        (came_map run f serves there at free) refl same)
+    by_block (Some block) at is =
+        by_row (nat_lt (disk_size_of w h run.serial.0) (bytes_up_to (service_state w h run) run.n))
+        (Some (map_of (service_state w h run) run.n block false)) (Some (Add Wb (request_for (adds h) run block)))
+        (Some e) is
+        (λ short same. comes w h Wb (map_of (service_state w h run) run.n block false) e
+        (came_grow run block serves there at (grind (arith, nat_tests))) refl same)
+        (λ long same. comes w h Wb (Add Wb (request_for (adds h) run block)) e
+        (came_add run block (ap served_run serves) there at (λ s. grind (arith, nat_tests))) refl same)
+
+by_mapped : (w : Workload) (h : List Event) (run : Run) (e : Event) → service h ≡ Mapped run
+    → IsTrue (is_live w h run.serial.0) → next_of_mapped (service_state w h run) ≡ Some e → Comes w h Wb e
+by_mapped w h run e mapped there n =
+    by_some (mapped_block w h run.serial.0 run.page) (λ block. Some (Add Wb (request_for (adds h) run block))) e n
+    (λ block at same. comes w h Wb (Add Wb (request_for (adds h) run block)) e
+    (came_add run block (ap served_run mapped) there at (λ serves. absurd (cc))) refl same)
+
+by_writeback : (w : Workload) (h : List Event) (e : Event) → next w h Wb ≡ Some e → Comes w h Wb e
+by_writeback w h e n = by_service (service h) refl n
+  where
+    by_service : (s : Service) → service h ≡ s → next_in_service w h s ≡ Some e → Comes w h Wb e
+    by_service Idle at is =
+        by_some (run_to_serve w h) (λ run. Some (Serve run.serial run.page run.n)) e is
+        (λ run found same. comes w h Wb (Serve run.serial run.page run.n) e
+        (came_serve run (ap served_run at) found) refl same)
+    by_service (Serving run) at is =
+        dropped w h run (next_of_serving (service_state w h run)) e (ap served_run at) is
+        (λ there rest. by_serving w h run e at there rest)
+    by_service (Mapped run) at is =
+        dropped w h run (next_of_mapped (service_state w h run)) e (ap served_run at) is
+        (λ there rest. by_mapped w h run e at there rest)
 
 by_dispatcher : (w : Workload) (h : List Event) (e : Event) → next w h Dq ≡ Some e → Comes w h Dq e
 by_dispatcher w h e n =
@@ -311,7 +421,7 @@ by_dispatcher w h e n =
 
 pub next_comes : (w : Workload) (h : List Event) (a : Actor) (e : Event) → next w h a ≡ Some e → Comes w h a e
 next_comes w h (Client p) e n = by_client w h p e n
-next_comes w h Wb e n = by_writeback w h e (served_run (service h)) refl n
+next_comes w h Wb e n = by_writeback w h e n
 next_comes w h Cm e n = absurd (cc)
 next_comes w h Dq e n = by_dispatcher w h e n
 next_comes w h (Dn k) e n =

@@ -13,12 +13,14 @@ use Rattle.split_types.specs.History.{◌▹◌, adds, event_at}
 use Rattle.split_types.specs.Hooks.{maker}
 use Rattle.split_types.specs.Requests.{is_numbered, queued}
 use Rattle.split_types.specs.CostAndClock.{head, cost_at, cost_of, first_of, length_of}
-use Rattle.split_types.specs.Writeback.{request_for}
+use Rattle.split_types.specs.Serving.{request_for}
 use Rattle.split_types.specs.Accepted.{IsAccepted}
 use Rattle.split_types.specs.Legal.{IsLegal}
 use Rattle.split_types.specs.LegalHistories.{SendsShowCosts}
 use Rattle.split_types.specs.Proving.Came.{Came, read_request}
-use Rattle.split_types.specs.Proving.Came.Came.{came_enter, came_admit, came_no_file, came_wrote, came_read, came_fault, came_put, came_get, came_zeros, came_evict, came_load, came_serve, came_add, came_send, came_done}
+use Rattle.split_types.specs.Proving.Came.Came.{came_enter, came_admit, came_changed, came_exists, came_no_slot, came_make, came_drop, came_no_file, came_too_big}
+use Rattle.split_types.specs.Proving.Came.Came.{came_wrote, came_read, came_fault, came_no_space, came_put, came_get, came_zeros, came_evict, came_load}
+use Rattle.split_types.specs.Proving.Came.Came.{came_serve, came_skip, came_map, came_grow, came_add, came_send, came_done}
 use Rattle.split_types.specs.Proving.Known.{Known}
 use Rattle.split_types.proofs.CameLaws.{came}
 use Rattle.split_types.proofs.History.{event_at-new, event_at-stays, event_at-within}
@@ -61,7 +63,42 @@ sent_next w h e id cost accepted f (came_admit p c has in' out may) s = record {
   gone = s.gone;
   shown = s.shown;
 }
+sent_next w h e id cost accepted f (came_make p name slot admitted idle unused at) s = record {
+  below = s.below;
+  gone = s.gone;
+  shown = s.shown;
+}
+sent_next w h e id cost accepted f (came_drop p name serial working idle) s = record {
+  below = s.below;
+  gone = s.gone;
+  shown = s.shown;
+}
 sent_next w h e id cost accepted f (came_no_file p c admitted none) s = record {
+  below = s.below;
+  gone = s.gone;
+  shown = s.shown;
+}
+sent_next w h e id cost accepted f (came_changed p c admitted names acted) s = record {
+  below = s.below;
+  gone = s.gone;
+  shown = s.shown;
+}
+sent_next w h e id cost accepted f (came_exists p name admitted idle taken) s = record {
+  below = s.below;
+  gone = s.gone;
+  shown = s.shown;
+}
+sent_next w h e id cost accepted f (came_no_slot p name admitted idle unused none) s = record {
+  below = s.below;
+  gone = s.gone;
+  shown = s.shown;
+}
+sent_next w h e id cost accepted f (came_too_big p name off len fill t working big) s = record {
+  below = s.below;
+  gone = s.gone;
+  shown = s.shown;
+}
+sent_next w h e id cost accepted f (came_no_space p name off len fill t piece here out none) s = record {
   below = s.below;
   gone = s.gone;
   shown = s.shown;
@@ -101,7 +138,22 @@ sent_next w h e id cost accepted f (came_evict p c t piece here absent v k found
   gone = s.gone;
   shown = s.shown;
 }
-sent_next w h e id cost accepted f (came_serve t k idle found) s = record {
+sent_next w h e id cost accepted f (came_serve run idle found) s = record {
+  below = s.below;
+  gone = s.gone;
+  shown = s.shown;
+}
+sent_next w h e id cost accepted f (came_skip run at gone) s = record {
+  below = s.below;
+  gone = s.gone;
+  shown = s.shown;
+}
+sent_next w h e id cost accepted f (came_map run free serves there none at) s = record {
+  below = s.below;
+  gone = s.gone;
+  shown = s.shown;
+}
+sent_next w h e id cost accepted f (came_grow run block serves there at short) s = record {
   below = s.below;
   gone = s.gone;
   shown = s.shown;
@@ -109,8 +161,8 @@ sent_next w h e id cost accepted f (came_serve t k idle found) s = record {
 sent_next w h e id cost accepted f (came_done k r at) s = record { below = s.below; gone = s.gone; shown = s.shown }
 sent_next w h e id cost accepted f (came_load p c t piece here absent block at) s =
     sent_add w h (Client p) (read_request (adds h) p t piece.page block) id cost refl s
-sent_next w h e id cost accepted f (came_add run at) s =
-    sent_add w h Wb (request_for w (adds h) run) id cost refl s
+sent_next w h e id cost accepted f (came_add run block at there placed known) s =
+    sent_add w h Wb (request_for (adds h) run block) id cost refl s
 sent_next w h e id cost accepted f (came_send r free picked) s =
     let there = picked_there w h r accepted picked
     in let apart : (id.0 ≡ r.id.0 → ⊥) =

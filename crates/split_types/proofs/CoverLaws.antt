@@ -1,7 +1,8 @@
--- The pages of preset files and their blocks, and which of them a request covers, writes and carries.
-use Rattle.std.proofs.Common.{◌≡◌, ℕ, ◌+◌, ◌-◌, ◌<◌, ◌≤◌, List, length, nat_le, nat_lt, true, false, ◌&&◌, Some, None, refl, arith, subst, sym, inl, inr, ap, ◌∙◌}
-use Rattle.std.proofs.lemmas.Bool.{both_ways, and_parts, and_from, cond-true, le-leb, lt-ltb, leb-true, ltb-true, false_from_ne_true}
+-- The pages of files and their blocks, and which of them a request covers, writes and carries.
+use Rattle.std.proofs.Common.{◌≡◌, ℕ, ◌+◌, ◌-◌, ◌<◌, ◌≤◌, List, nat_le, nat_lt, true, false, ◌&&◌, Some, refl, arith, subst, sym, inl, inr, ap, ◌∙◌}
+use Rattle.std.proofs.lemmas.Bool.{both_ways, and_parts, and_from, le-leb, lt-ltb, leb-true, ltb-true, false_from_ne_true}
 use Rattle.std.proofs.lemmas.Bool.Decides.{nat_tests}
+use Rattle.std.proofs.lemmas.Option.{same_Some}
 use Rattle.split_types.specs.declared.ids.Pid.{Pid}
 use Rattle.split_types.specs.declared.ids.Serial.{Serial}
 use Rattle.split_types.specs.declared.buf.Buf.{Buf}
@@ -11,59 +12,15 @@ use Rattle.split_types.specs.declared.request.Request.{Request}
 use Rattle.split_types.specs.declared.workload.Workload.{Workload}
 use Rattle.split_types.specs.declared.event.Event.{Event}
 use Rattle.split_types.specs.Hooks.{covers, is_among}
-use Rattle.split_types.specs.Workloads.{pages_in, page_block, first_block, all_pages, preset_pages}
 use Rattle.split_types.specs.Requests.{is_write}
 use Rattle.split_types.specs.FileMaps.{mapped_block}
 use Rattle.split_types.specs.PageBytes.{page_bytes}
 use Rattle.split_types.specs.DiskBytes.{carried, writes}
+use Rattle.split_types.specs.FilesInOrder.{all_files}
 use Rattle.split_types.specs.Accepted.{IsAccepted}
 use Rattle.split_types.specs.Legal.{IsLegal}
-use Rattle.split_types.specs.Proving.Runs.{MovesPages, MovesRun, IsPresetRun}
-use Rattle.split_types.proofs.Lists.{some_at}
-use Rattle.split_types.proofs.PageLaws.{page_index_within, length-all_pages, page_is, page_index-apart}
-use Rattle.split_types.proofs.KnownLaws.{preset_page, known}
-
--- ---- pages of preset files and their blocks
--- x is the block of page g of a preset file
-pub record IsPresetPage (w : Workload) (s : Serial) (g x : ℕ) : Type 0 where
-  pub file : s.0 < length w.files
-  pub page : g < pages_in w s.0
-  pub block : x ≡ page_block w s.0 g
-
--- in a legal history the pages that have blocks are those of the preset files
-pub mapped_is : (w : Workload) (h : List Event) (s : Serial) (g x : ℕ) → IsAccepted w → IsLegal w h
-    → mapped_block w h s.0 g ≡ Some x → IsPresetPage w s g x
-mapped_is w h s g x accepted legal at =
-    let is = preset_page w s.0 g x (sym ((known w h accepted legal).maps s.0 g) ∙ at) in
-    record { file = is.0; page = is.1; block = is.2 }
-
-pub mapped_at : (w : Workload) (h : List Event) (s : Serial) (g x : ℕ) → IsAccepted w → IsLegal w h
-    → IsPresetPage w s g x → mapped_block w h s.0 g ≡ Some x
-mapped_at w h s g x accepted legal is =
-    (known w h accepted legal).maps s.0 g
-    ∙ cond-true (nat_lt g (pages_in w s.0)) (Some (page_block w s.0 g)) None (lt-ltb g (pages_in w s.0) is.page)
-    ∙ ap Some (sym is.block)
-
--- the page of a preset file that has a block
-pub record HasPage (w : Workload) (x : ℕ) : Type 0 where
-  pub serial : Serial
-  pub page : ℕ
-  pub preset : IsPresetPage w serial page x
-
--- from the first block of data on there are as many blocks of pages as there are pages, and no more
-pub page_of_block : (w : Workload) (x : ℕ) → first_block w ≤ x → x < first_block w + preset_pages w → HasPage w x
-page_of_block w x low high =
-    let there = some_at (all_pages w) (x - first_block w) (omega (arith, length-all_pages w, low, high))
-    in let is = page_is w (x - first_block w) there.0 there.1
-    in record {
-      serial = is.serial;
-      page = is.page;
-      preset = record { file = is.file; page = is.within; block = omega (arith, is.index, low) };
-    }
-
-pub no_page_behind : (w : Workload) (s : Serial) (g x : ℕ) → first_block w + preset_pages w ≤ x
-    → IsPresetPage w s g x → ⊥
-no_page_behind w s g x behind is = omega (arith, page_index_within w s.0 g is.file is.page, is.block, behind)
+use Rattle.split_types.specs.Proving.Runs.{MovesPages, MovesRun}
+use Rattle.split_types.proofs.MapLaws.{maps_of}
 
 -- ---- what a request covers and what it writes
 covers_pages : (r : Request) (s : Serial) (g : ℕ) (b : Buf) → r.kind ≡ Pages s g → covers r b ≡ is_among s g r.n b
@@ -82,14 +39,17 @@ carried_pages : (w : Workload) (h : List Event) (r : Request) (s : Serial) (g i 
     → carried w h r i ≡ page_bytes w h s (g + i)
 carried_pages w h r s g i kind = rw kind refl
 
--- the request writes pages of a preset file from this one on, and page g is one of them
-pub record IsCovered (w : Workload) (r : Request) (s : Serial) (g : ℕ) : Type 0 where
+-- the request moves pages that files have after h, in their blocks
+abbrev pub MovesIn : Workload → List Event → Request → Type 0
+MovesIn w h r = MovesRun (all_files w h) (mapped_block w h) r
+
+-- the request writes pages of a file from this one on, and page g is one of them; x is its block
+pub record IsCovered (r : Request) (s : Serial) (g x : ℕ) : Type 0 where
   pub start : ℕ
   pub kind : r.kind ≡ Pages s start
   pub low : start ≤ g
   pub high : g < start + r.n
-  pub place : r.first ≡ page_block w s.0 start
-  pub run : IsPresetRun w s start r.n
+  pub place : x ≡ r.first + (g - start)
 
 pub among_parts : (s t : Serial) (g n k : ℕ) → is_among s g n (Page t k) ≡ true → (s.0 ≡ t.0) × (g ≤ k) × (k < g + n)
 among_parts s t g n k is = grind (arith, nat_tests)
@@ -97,57 +57,58 @@ among_parts s t g n k is = grind (arith, nat_tests)
 among_from : (s : Serial) (g n k : ℕ) → g ≤ k → k < g + n → is_among s g n (Page s k) ≡ true
 among_from s g n k low high = grind (arith, nat_tests)
 
-pub covered : (w : Workload) (r : Request) (s : Serial) (g : ℕ) → MovesRun w r → covers r (Page s g) ≡ true
-    → IsCovered w r s g
-covered w r s g run is = by_kind run.kind
+pub covered : (w : Workload) (h : List Event) (r : Request) (s : Serial) (g x : ℕ) → MovesIn w h r
+    → mapped_block w h s.0 g ≡ Some x → covers r (Page s g) ≡ true → IsCovered r s g x
+covered w h r s g x run at is = by_kind run.kind
   where
-    of_pages : (t : Serial) → t ≡ s → r.kind ≡ Pages t run.page → run.page ≤ g → g < run.page + r.n
-        → r.first ≡ page_block w t.0 run.page → IsPresetRun w t run.page r.n → IsCovered w r s g
-    of_pages t same kind low high place preset = record {
+    of_pages : (t : Serial) (k : ℕ) → t ≡ s → k ≡ g → r.kind ≡ Pages t run.page → run.page ≤ g → g < run.page + r.n
+        → mapped_block w h t.0 k ≡ Some (r.first + (g - run.page)) → IsCovered r s g x
+    of_pages t k same page kind low high place = record {
       start = run.page;
       kind = kind ∙ ap (λ u. Pages u run.page) same;
       low = low;
       high = high;
-      place = place ∙ ap (λ u. page_block w u.0 run.page) same;
-      run = subst (λ u. IsPresetRun w u run.page r.n) same preset;
+      place =
+          same_Some x (r.first + (g - run.page))
+          (sym at
+          ∙ ap (λ u. mapped_block w h u.0 g) (sym same)
+          ∙ ap (λ j. mapped_block w h t.0 j) (sym page)
+          ∙ place);
     }
 
-    by_kind : MovesPages r.kind run.serial run.page → IsCovered w r s g
+    by_kind : MovesPages r.kind run.serial run.page → IsCovered r s g x
     by_kind (inr (by, kind)) =
         absurd (both_ways (covers r (Page s g)) (covers_none r by run.serial run.page (Page s g) kind) is)
     by_kind (inl kind) =
         let parts =
         among_parts run.serial s run.page r.n g (sym (covers_pages r run.serial run.page (Page s g) kind) ∙ is)
-        in of_pages run.serial (ap (λ n. record { 0 = n }) parts.0) kind parts.1 parts.2 run.place run.run
+        in of_pages run.serial (run.page + (g - run.page)) (ap (λ n. record { 0 = n }) parts.0)
+        (omega (arith, parts)) kind parts.1 parts.2 (run.place (g - run.page) (omega (arith, parts)))
 
--- page g of the request has this block, and the request carries there what the page is before its add
-pub preset_of : (w : Workload) (r : Request) (s : Serial) (g : ℕ) → IsCovered w r s g
-    → IsPresetPage w s g (page_block w s.0 g)
-preset_of w r s g c = record { file = c.run.file; page = omega (arith, c.high, c.run.within); block = refl }
-
-pub writes_covered : (w : Workload) (r : Request) (s : Serial) (g x : ℕ) → IsCovered w r s g
-    → x ≡ page_block w s.0 g → writes r x ≡ true
-writes_covered w r s g x c block =
+-- the request writes the block of the page, and carries there what the page is before its add
+pub writes_covered : (r : Request) (s : Serial) (g x : ℕ) → IsCovered r s g x → writes r x ≡ true
+writes_covered r s g x c =
     and_from (is_write r && nat_le r.first x) (nat_lt x (r.first + r.n))
     (and_from (is_write r) (nat_le r.first x) (is_write_pages r s c.start c.kind)
-    (le-leb r.first x (omega (arith, c.place, c.low, block))))
-    (lt-ltb x (r.first + r.n) (omega (arith, c.place, c.high, block)))
+    (le-leb r.first x (omega (arith, c.place))))
+    (lt-ltb x (r.first + r.n) (omega (arith, c.place, c.low, c.high)))
 
-pub carried_covered : (w : Workload) (h : List Event) (r : Request) (s : Serial) (g x : ℕ) → IsCovered w r s g
-    → x ≡ page_block w s.0 g → carried w h r (x - r.first) ≡ page_bytes w h s g
-carried_covered w h r s g x c block =
-    carried_pages w h r s c.start (x - r.first) c.kind
-    ∙ ap (page_bytes w h s) (omega (arith, c.place, c.low, block))
+pub carried_covered : (w : Workload) (before : List Event) (r : Request) (s : Serial) (g x : ℕ) → IsCovered r s g x
+    → carried w before r (x - r.first) ≡ page_bytes w before s g
+carried_covered w before r s g x c =
+    carried_pages w before r s c.start (x - r.first) c.kind
+    ∙ ap (page_bytes w before s) (omega (arith, c.place, c.low))
 
 -- what a request that writes block x writes there: a page that it covers
-pub record IsWritten (w : Workload) (r : Request) (x : ℕ) : Type 0 where
+pub record IsWritten (w : Workload) (h : List Event) (r : Request) (x : ℕ) : Type 0 where
   pub serial : Serial
   pub page : ℕ
   pub covers_it : covers r (Page serial page) ≡ true
-  pub preset : IsPresetPage w serial page x
+  pub at : mapped_block w h serial.0 page ≡ Some x
 
-pub written : (w : Workload) (r : Request) (x : ℕ) → MovesRun w r → writes r x ≡ true → IsWritten w r x
-written w r x run is = by_kind run.kind
+pub written : (w : Workload) (h : List Event) (r : Request) (x : ℕ) → MovesIn w h r → writes r x ≡ true
+    → IsWritten w h r x
+written w h r x run is = by_kind run.kind
   where
     tests : (is_write r ≡ true) × (r.first ≤ x) × (x < r.first + r.n)
     tests =
@@ -155,7 +116,7 @@ written w r x run is = by_kind run.kind
         in let inner = and_parts (is_write r) (nat_le r.first x) outer.0
         in (inner.0, leb-true r.first x inner.1, ltb-true x (r.first + r.n) outer.1)
 
-    by_kind : MovesPages r.kind run.serial run.page → IsWritten w r x
+    by_kind : MovesPages r.kind run.serial run.page → IsWritten w h r x
     by_kind (inr (by, kind)) =
         absurd (both_ways (is_write r) (is_write_none r by run.serial run.page kind) tests.0)
     by_kind (inl kind) =
@@ -165,25 +126,22 @@ written w r x run is = by_kind run.kind
           covers_it =
               covers_pages r run.serial run.page (Page run.serial (run.page + (x - r.first))) kind
               ∙ among_from run.serial run.page r.n (run.page + (x - r.first)) (omega arith) (omega (arith, tests));
-          preset = record {
-            file = run.run.file;
-            page = omega (arith, tests, run.run.within);
-            block = omega (arith, tests, run.place);
-          };
+          at = run.place (x - r.first) (omega (arith, tests)) ∙ ap Some (omega (arith, tests));
         }
 
--- pages of preset files that have one block are one page
-pub same_page : (w : Workload) (s : Serial) (g : ℕ) (t : Serial) (k x : ℕ) → IsPresetPage w s g x
-    → IsPresetPage w t k x → ◌≡◌ {A = Buf} (Page s g) (Page t k)
-same_page w s g t k x one two =
-    let same = page_index-apart w s g t k one.file one.page two.file two.page (omega (arith, one.block, two.block))
+-- pages that have one block are one page
+pub same_page : (w : Workload) (h : List Event) (s : Serial) (g : ℕ) (t : Serial) (k x : ℕ) → IsAccepted w
+    → IsLegal w h → mapped_block w h s.0 g ≡ Some x → mapped_block w h t.0 k ≡ Some x
+    → ◌≡◌ {A = Buf} (Page s g) (Page t k)
+same_page w h s g t k x accepted legal at there =
+    let same = (maps_of w h accepted legal).blocks.apart s.0 t.0 g k x at there
     in ap (λ n. Page (record { 0 = n }) g) same.0 ∙ ap (Page t) same.1
 
 -- a request that doesn't cover a page doesn't write its block
-pub writes_other : (w : Workload) (r : Request) (s : Serial) (g x : ℕ) → MovesRun w r → IsPresetPage w s g x
-    → covers r (Page s g) ≡ false → writes r x ≡ false
-writes_other w r s g x run preset none =
-    false_from_ne_true (writes r x) (λ is. (let there = written w r x run is
+pub writes_other : (w : Workload) (h : List Event) (r : Request) (s : Serial) (g x : ℕ) → IsAccepted w → IsLegal w h
+    → MovesIn w h r → mapped_block w h s.0 g ≡ Some x → covers r (Page s g) ≡ false → writes r x ≡ false
+writes_other w h r s g x accepted legal run at none =
+    false_from_ne_true (writes r x) (λ is. (let there = written w h r x run is
     in both_ways (covers r (Page s g)) none
-    (subst (λ b. covers r b ≡ true) (same_page w there.serial there.page s g x there.preset preset)
+    (subst (λ b. covers r b ≡ true) (same_page w h there.serial there.page s g x accepted legal there.at at)
     there.covers_it)))

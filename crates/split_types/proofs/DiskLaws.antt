@@ -1,5 +1,5 @@
 -- The disk holds the bytes of every page that is neither dirty nor busy.
-use Rattle.std.proofs.Common.{◌≡◌, ℕ, ◌-◌, ◌<◌, ◌≤◌, List, [], ◌∷◌, length, slice_get, filter, Bool, true, false, not, ◌&&◌, ◌||◌, ◌⊎◌, Option, Some, refl, arith, subst, sym, inl, inr, ap, ◌∙◌}
+use Rattle.std.proofs.Common.{◌≡◌, ℕ, ◌+◌, ◌-◌, ◌<◌, ◌≤◌, List, [], ◌∷◌, length, slice_get, filter, Bool, true, false, not, ◌&&◌, ◌||◌, ◌⊎◌, Option, Some, refl, arith, subst, sym, inl, inr, ap, ◌∙◌}
 use Rattle.std.specs.List.{list_any}
 use Rattle.std.proofs.lemmas.Bool.{cases_Bool, both_ways, and_cases, or_parts, false_from_ne_true, not_from_false}
 use Rattle.std.proofs.lemmas.List.{length-replicate}
@@ -7,12 +7,13 @@ use Rattle.std.proofs.lemmas.List.Folds.{list_any-append}
 use Rattle.std.proofs.lemmas.Option.{same_Some, slice_get_within}
 use Rattle.split_types.specs.declared.ids.ReqId.{ReqId}
 use Rattle.split_types.specs.declared.ids.Serial.{Serial}
+use Rattle.split_types.specs.declared.ids.Slot.{Slot}
 use Rattle.split_types.specs.declared.buf.Buf.{Buf}
 use Rattle.split_types.specs.declared.buf.Buf.TheVariants.{Page}
 use Rattle.split_types.specs.declared.request.Request.{Request}
 use Rattle.split_types.specs.declared.workload.Workload.{Workload}
 use Rattle.split_types.specs.declared.event.Event.{Event}
-use Rattle.split_types.specs.declared.event.Event.TheVariants.{Put, Add, Done}
+use Rattle.split_types.specs.declared.event.Event.TheVariants.{Put, Map, Add, Done}
 use Rattle.split_types.specs.History.{◌▹◌, adds}
 use Rattle.split_types.specs.Hooks.{maker, same_buf, covers}
 use Rattle.split_types.specs.Workloads.{first_block}
@@ -20,26 +21,31 @@ use Rattle.split_types.specs.Requests.{is_numbered, requests, unfinished}
 use Rattle.split_types.specs.Files.{is_live}
 use Rattle.split_types.specs.Pages.{is_put_since}
 use Rattle.split_types.specs.HeldPages.{is_unsettled}
-use Rattle.split_types.specs.FileMaps.{mapped_block}
+use Rattle.split_types.specs.FileMaps.{mapped_block, free_blocks}
 use Rattle.split_types.specs.PageBytes.{filled_page, filled, page_bytes, PutsFit}
 use Rattle.split_types.specs.DiskBytes.{carried, preset_fill, start_block, Adding, adding, writes, after_write, disk_block}
+use Rattle.split_types.specs.Writeback.{served_run}
 use Rattle.split_types.specs.DiskContents.{IsOnDisk, CleanPagesAreOnDisk}
 use Rattle.split_types.specs.Accepted.{IsAccepted}
 use Rattle.split_types.specs.Legal.{IsLegal}
+use Rattle.split_types.specs.Proving.Came.{Came}
+use Rattle.split_types.specs.Proving.Came.Came.{came_map, came_grow}
 use Rattle.split_types.specs.Proving.Known.{Known}
 use Rattle.split_types.proofs.Lists.{slice_get-push, find_some, filter_there, list_any_here}
 use Rattle.split_types.proofs.KeptLists.{case_true, case_false, in_filter}
 use Rattle.split_types.proofs.ByteLaws.{length-page_bytes}
 use Rattle.split_types.proofs.WaitingLaws.{same_number}
 use Rattle.split_types.proofs.CameLaws.{came}
-use Rattle.split_types.proofs.KnownLaws.{known}
+use Rattle.split_types.proofs.KnownLaws.{maps_known, known}
+use Rattle.split_types.proofs.ReadyLaws.{ready_parts}
+use Rattle.split_types.proofs.MapBlocks.{IsNew, map_cases}
+use Rattle.split_types.proofs.MapRuns.{free_is}
 use Rattle.split_types.proofs.PutLaws.{put_in_legal}
 use Rattle.split_types.proofs.HeldLaws.{same_buf-is, same_buf-self}
-use Rattle.split_types.proofs.CoverLaws.{IsPresetPage, mapped_is, mapped_at, covered, writes_covered, carried_covered, written, writes_other}
+use Rattle.split_types.proofs.CoverLaws.{covered, writes_covered, carried_covered, written, writes_other}
 use Rattle.split_types.proofs.WriteLaws.{adding_new, adding_kept, adding_there, before_legal, left_run, IsDone, is_done}
 use Rattle.split_types.proofs.StartLaws.{start_data, start_page}
 use Rattle.split_types.proofs.ReadLaws.{read_loading}
-use Rattle.split_types.proofs.CacheLaws.{preset_live}
 use Rattle.split_types.proofs.LoadingLaws.{taken_ready, put_settled, idle_settled, loading_settled}
 
 -- ---- a put of another page
@@ -93,7 +99,7 @@ carries_page w (h ▹ Add by q) s g k r before accepted legal rested at is added
     unput old (inr none) = none
     unput old (inl taken) =
         absurd (both_ways (list_any (λ x. covers x (Page s g)) (unfinished h))
-        (taken_ready w h by q s g f (came w h (maker (Add by q)) (Add by q) legal.0)
+        (taken_ready w h by q s g accepted legal.1 (came w h (maker (Add by q)) (Add by q) legal.0)
         (taken_is (covers q (Page s g)) taken)).idle
         (list_any_here (λ x. covers x (Page s g)) (unfinished h) k r old is))
       where
@@ -152,39 +158,77 @@ idle_before w h id s g f r own number none idle = false_from_ne_true (list_any t
               (list_any_here takes (filter stays (unfinished h)) kept.0 found.element kept.1 found.passes))
         ]
 
+-- ---- pages that get blocks
+-- writeback maps pages that were put and that no request took since
+mapped_put : (w : Workload) (h : List Event) (slot : Slot) (t : Serial) (page n block : ℕ) (new : Bool) (size k : ℕ)
+    → IsAccepted w → IsLegal w h → Came w h (Map slot t page n block new size) → k < n
+    → is_put_since h (Page t (page + k)) ≡ true
+mapped_put w h slot t page n block new size k accepted legal (came_map run free serves there none at) below =
+    let served = maps_known.served w h run accepted legal (ap served_run serves)
+    in let least = (free_is (free_blocks w h) run.n free at).most
+    in (ready_parts w h run.serial (run.page + k) (served.ready there k (omega (arith, least, below)))).put
+mapped_put w h slot t page n block new size k accepted legal (came_grow run first serves there at short) below =
+    let served = maps_known.served w h run accepted legal (ap served_run serves)
+    in (ready_parts w h run.serial (run.page + k) (served.ready there k below)).put
+
+-- so a page that was not put had its block before
+mapped_before : (w : Workload) (h : List Event) (slot : Slot) (t : Serial) (page n block : ℕ) (new : Bool) (size : ℕ)
+    (s : Serial) (g x : ℕ) → IsAccepted w → IsLegal w (h ▹ Map slot t page n block new size)
+    → mapped_block w (h ▹ Map slot t page n block new size) s.0 g ≡ Some x → is_put_since h (Page s g) ≡ false
+    → mapped_block w h s.0 g ≡ Some x
+mapped_before w h slot t page n block new size s g x accepted legal at rested =
+    elim (map_cases (mapped_block w h) t.0 page n block s.0 g x at) [
+      | inl fresh ↦ absurd (both_ways (is_put_since h (Page s g)) rested (put fresh))
+      | inr old ↦ old
+    ]
+  where
+    e : Event
+    e = Map slot t page n block new size
+
+    put : IsNew t.0 page n block s.0 g x → is_put_since h (Page s g) ≡ true
+    put fresh =
+        let own = mapped_put w h slot t page n block new size fresh.behind accepted legal.1
+        (came w h (maker e) e legal.0) fresh.below
+        in subst (λ k. is_put_since h (Page s k) ≡ true) (sym fresh.page_is)
+        (subst (λ u. is_put_since h (Page u (page + fresh.behind)) ≡ true)
+        (ap (λ i. record { 0 = i }) (sym fresh.file)) own)
+
 -- ---- pages that are neither dirty nor busy
 pub clean_page : (w : Workload) (h : List Event) (s : Serial) (g x : ℕ) → IsAccepted w → IsLegal w h
-    → IsPresetPage w s g x → is_put_since h (Page s g) ≡ false
+    → mapped_block w h s.0 g ≡ Some x → is_put_since h (Page s g) ≡ false
     → list_any (λ r. covers r (Page s g)) (unfinished h) ≡ false → disk_block w h x ≡ page_bytes w h s g
-clean_page w [] s g x accepted legal preset rested idle = start_page w s g x preset
-clean_page w (h ▹ Put by t k from to fill) s g x accepted legal preset rested idle =
+clean_page w [] s g x accepted legal at rested idle = start_page w s g x at
+clean_page w (h ▹ Put by t k from to fill) s g x accepted legal at rested idle =
     let parts = or_parts (same_buf (Page s g) (Page t k)) (is_put_since h (Page s g)) rested
-    in clean_page w h s g x accepted legal.1 preset parts.1 idle
+    in clean_page w h s g x accepted legal.1 at parts.1 idle
     ∙ sym (other_put w h s t g k from to fill parts.0)
-clean_page w (h ▹ Add by r) s g x accepted legal preset rested idle =
+clean_page w (h ▹ Map slot t page n block new size) s g x accepted legal at rested idle =
+    let before = mapped_before w h slot t page n block new size s g x accepted legal at rested
+    in clean_page w h s g x accepted legal.1 before rested idle
+clean_page w (h ▹ Add by r) s g x accepted legal at rested idle =
     let parts =
     or_parts (list_any (λ q. covers q (Page s g)) (unfinished h)) (covers r (Page s g) || false)
     (sym (list_any-append (λ q. covers q (Page s g)) (unfinished h) (r ∷ [])) ∙ idle)
-    in clean_page w h s g x accepted legal.1 preset
+    in clean_page w h s g x accepted legal.1 at
     (unput (covers r (Page s g)) (is_put_since h (Page s g)) (or_parts (covers r (Page s g)) false parts.1).0 rested)
     parts.0
   where
     unput : (taken put : Bool) → taken ≡ false → (not taken && put) ≡ false → put ≡ false
     unput true put none is = absurd (cc)
     unput false put none is = is
-clean_page w (h ▹ Done k id true) s g x accepted legal preset rested idle =
+clean_page w (h ▹ Done k id true) s g x accepted legal at rested idle =
     elim (cases_Bool (covers d.request (Page s g))) [
       | inl own ↦
-          (let c = covered w d.request s g d.run own
+          (let c = covered w h d.request s g x d.run at own
           in after_written w (adding h id) d.request d.before x (disk_block w h x) d.added
-          (writes_covered w d.request s g x c preset.block)
-          ∙ carried_covered w d.before d.request s g x c preset.block
+          (writes_covered d.request s g x c)
+          ∙ carried_covered w d.before d.request s g x c
           ∙ carries_page w h s g d.place d.request d.before accepted legal.1 rested d.there own
           (ap (adding h) d.number ∙ d.added))
       | inr other ↦
           after_other w (adding h id) d.request d.before x (disk_block w h x) d.added
-          (writes_other w d.request s g x d.run preset other)
-          ∙ clean_page w h s g x accepted legal.1 preset rested
+          (writes_other w h d.request s g x accepted legal.1 d.run at other)
+          ∙ clean_page w h s g x accepted legal.1 at rested
           (idle_before w h id s g f d.request (f.waiting.left_of d.place d.request d.there) d.number other idle)
     ]
   where
@@ -193,20 +237,23 @@ clean_page w (h ▹ Done k id true) s g x accepted legal preset rested idle =
 
     d : IsDone w h k id
     d = is_done w h k id accepted legal
-clean_page w (h ▹ e) s g x accepted legal preset rested idle =
-    clean_page w h s g x accepted legal.1 preset rested idle
+clean_page w (h ▹ e) s g x accepted legal at rested idle = clean_page w h s g x accepted legal.1 at rested idle
 
 -- ---- other blocks
--- a block of no page keeps what it held at the start
+-- a block that no page ever had keeps what it held at the start
 pub other_block : (w : Workload) (h : List Event) (x : ℕ) → IsAccepted w → IsLegal w h
-    → ((s : Serial) (g : ℕ) → IsPresetPage w s g x → ⊥) → disk_block w h x ≡ start_block w x
+    → ((s : Serial) (g : ℕ) → mapped_block w h s.0 g ≡ Some x → ⊥) → disk_block w h x ≡ start_block w x
 other_block w [] x accepted legal none = refl
 other_block w (h ▹ Done k id true) x accepted legal none =
     let d = is_done w h k id accepted legal
     in after_other w (adding h id) d.request d.before x (disk_block w h x) d.added
     (false_from_ne_true (writes d.request x)
-    (λ is. (let there = written w d.request x d.run is in none there.serial there.page there.preset)))
+    (λ is. (let there = written w h d.request x d.run is in none there.serial there.page there.at)))
     ∙ other_block w h x accepted legal.1 none
+other_block w (h ▹ Map slot t page n block new size) x accepted legal none =
+    other_block w h x accepted legal.1
+    (λ s g at. none s g
+    (maps_known.stays w h (Map slot t page n block new size) s.0 g x accepted legal at))
 other_block w (h ▹ e) x accepted legal none = other_block w h x accepted legal.1 none
 
 -- ---- whole blocks
@@ -231,10 +278,10 @@ whole_block w (h ▹ Done k id true) x accepted legal from =
     let d = is_done w h k id accepted legal
     in elim (cases_Bool (writes d.request x)) [
       | inl is ↦
-          (let there = written w d.request x d.run is
-          in let c = covered w d.request there.serial there.page d.run there.covers_it
+          (let there = written w h d.request x d.run is
+          in let c = covered w h d.request there.serial there.page x d.run there.at there.covers_it
           in ap length (after_written w (adding h id) d.request d.before x (disk_block w h x) d.added is
-          ∙ carried_covered w d.before d.request there.serial there.page x c there.preset.block)
+          ∙ carried_covered w d.before d.request there.serial there.page x c)
           ∙ whole_page w d.before there.serial there.page accepted
           (before_legal w h id (record { request = d.request; before = d.before }) legal.1 d.added))
       | inr none ↦
@@ -245,43 +292,31 @@ whole_block w (h ▹ e) x accepted legal from = whole_block w h x accepted legal
 
 -- ---- every page that has a block
 on_disk : (w : Workload) (h : List Event) (s : Serial) (g x : ℕ) → IsAccepted w → IsLegal w h
-    → mapped_block w h s.0 g ≡ Some x → IsOnDisk w h s g x
-on_disk w h s g x accepted legal at = record {
+    → is_live w h s.0 ≡ true → mapped_block w h s.0 g ≡ Some x → IsOnDisk w h s g x
+on_disk w h s g x accepted legal live at = record {
   clean = clean;
   busy =
       λ k r rested there is. (let own = (known w h accepted legal).waiting.left_of k r there
       in let add = adding_there w h r.id.0 r accepted legal own
-      in let c = covered w r s g (left_run w h k r (known w h accepted legal) there) is
+      in let c = covered w h r s g x (left_run w h k r (known w h accepted legal) there) at is
       in record {
         before = add.0;
         added = add.1;
-        written = writes_covered w r s g x c preset.block;
+        written = writes_covered r s g x c;
         bytes_are =
-            carried_covered w add.0 r s g x c preset.block
+            carried_covered w add.0 r s g x c
             ∙ carries_page w h s g k r add.0 accepted legal
             (sym (ap (λ b. b && is_put_since h (Page s g)) live) ∙ rested) there is add.1;
       });
-  settled = λ loading. loading_settled w h s g accepted legal preset.file loading;
+  settled = λ loading. loading_settled w h s g accepted legal loading;
   found =
-      λ k id done read. clean (loading_settled w h s g accepted legal preset.file
-      (read_loading w h k id s g accepted done preset.file read));
+      λ k id done read. clean (loading_settled w h s g accepted legal
+      (read_loading w h k id s g accepted done live read));
 }
   where
-    preset : IsPresetPage w s g x
-    preset = mapped_is w h s g x accepted legal at
-
-    live : is_live w h s.0 ≡ true
-    live = preset_live w h s (known w h accepted legal) preset.file
-
     clean : is_unsettled w h (Page s g) ≡ false → disk_block w h x ≡ page_bytes w h s g
     clean none =
-        clean_page w h s g x accepted legal preset (put_settled w h s g live none) (idle_settled w h s g live none)
+        clean_page w h s g x accepted legal at (put_settled w h s g live none) (idle_settled w h s g live none)
 
 pub clean_pages_are_on_disk : CleanPagesAreOnDisk
-clean_pages_are_on_disk = record {
-  pages = on_disk;
-  others =
-      λ w h x accepted legal none. other_block w h x accepted legal
-      (λ s g is. none s g (mapped_at w h s g x accepted legal is));
-  whole = whole_block;
-}
+clean_pages_are_on_disk = record { pages = on_disk; others = other_block; whole = whole_block }

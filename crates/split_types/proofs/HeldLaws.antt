@@ -1,5 +1,5 @@
 -- Every page that is held, dirty or busy is among the known pages, and each of these stands there once.
-use Rattle.std.proofs.Common.{◌≡◌, ℕ, zero, suc, ◌+◌, List, [], ◌∷◌, slice_get, Bool, true, false, not, ◌&&◌, Option, Some, refl, arith, sym, subst, inl, inr, ◌∙◌, ap, ◌⊎◌}
+use Rattle.std.proofs.Common.{◌≡◌, ℕ, zero, suc, ◌+◌, List, [], ◌∷◌, slice_get, Bool, true, false, not, ◌&&◌, Option, Some, None, refl, arith, sym, subst, inl, inr, ◌∙◌, ap, ◌⊎◌}
 use Rattle.std.specs.Prelude.{◌==◌}
 use Rattle.std.specs.List.{list_any}
 use Rattle.std.proofs.lemmas.Bool.{cases_Bool, cases_lt, or_cases, or_left, or_right, and_parts, cond-true, cond-false, both_ways, eqb-true, eq-eqb}
@@ -23,7 +23,6 @@ use Rattle.split_types.specs.Pages.{is_live_page, is_put_since, is_dirty, is_bus
 use Rattle.split_types.specs.Reads.{reads, outstanding, request_numbered, is_read_of, is_loading}
 use Rattle.split_types.specs.HeldPages.{is_placed, is_held, is_unsettled, pages_moved, with_page, with_pages, known_pages, PagesAreKnown}
 use Rattle.split_types.proofs.Lists.{list_any_here}
-use Rattle.split_types.proofs.NumberLaws.{reads_some}
 use Rattle.split_types.proofs.KeptLists.{any_filter, any_push}
 
 -- ---- buffers that are the same
@@ -163,7 +162,7 @@ loading_known (h ▹ Done k id ok) b any =
     loading_known h b (any_filter (λ r. reads r b) (λ r. not (is_numbered id r)) (outstanding h) any)
 loading_known (h ▹ e) b any = loading_known h b any
 
-busy_known : (h : List Event) (b : Buf) → list_any (λ r. covers r b) (unfinished h) ≡ true
+pub busy_known : (h : List Event) (b : Buf) → list_any (λ r. covers r b) (unfinished h) ≡ true
     → stands_in b (known_pages h) ≡ true
 busy_known [] b any = absurd (cc)
 busy_known (h ▹ Put by s g from to fill) b any =
@@ -191,6 +190,10 @@ put_known (h ▹ e) b is = put_known h b is
 -- ---- pages that were read
 abbrev newer : Bool → Request → Option Request → Option Request
 newer t r old = elim t [ true ↦ Some r | false ↦ old ]
+
+-- the request, if there is one, reads the page
+abbrev pub reads_some : Option Request → Buf → Bool
+reads_some o b = elim o [ None ↦ false | Some r ↦ reads r b ]
 
 read_either : (t : Bool) (r : Request) (old : Option Request) (b : Buf) → reads_some (newer t r old) b ≡ true
     → (reads r b ≡ true) ⊎ (reads_some old b ≡ true)

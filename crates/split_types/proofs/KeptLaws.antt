@@ -22,22 +22,26 @@ use Rattle.split_types.specs.History.{◌▹◌, adds}
 use Rattle.split_types.specs.Hooks.{same_buf}
 use Rattle.split_types.specs.Requests.{is_numbered, in_flight}
 use Rattle.split_types.specs.Calls.{moved}
+use Rattle.split_types.specs.Files.{bound_file}
 use Rattle.split_types.specs.Pages.{is_live_page}
 use Rattle.split_types.specs.PageBytes.{sum_of_bytes}
 use Rattle.split_types.specs.Pieces.{got}
 use Rattle.split_types.specs.Reads.{reads, outstanding, is_loading, request_numbered, is_read_of, reads_for, other_than, reader_of}
 use Rattle.split_types.specs.HeldPages.{is_placed, is_held, is_unsettled}
-use Rattle.split_types.specs.Victims.{pinned_by, is_pinned, is_evictable, victim}
-use Rattle.split_types.specs.Writeback.{request_for}
+use Rattle.split_types.specs.Victims.{pinned_by, is_evictable, victim}
+use Rattle.split_types.specs.Serving.{request_for}
 use Rattle.split_types.specs.Proving.Came.{Came, read_request}
-use Rattle.split_types.specs.Proving.Came.Came.{came_enter, came_admit, came_no_file, came_wrote, came_read, came_fault, came_put, came_get, came_zeros, came_evict, came_load, came_serve, came_add, came_send, came_done}
+use Rattle.split_types.specs.Proving.Came.Came.{came_enter, came_admit, came_changed, came_exists, came_no_slot, came_make, came_drop, came_no_file, came_too_big}
+use Rattle.split_types.specs.Proving.Came.Came.{came_wrote, came_read, came_fault, came_no_space, came_put, came_get, came_zeros, came_evict, came_load}
+use Rattle.split_types.specs.Proving.Came.Came.{came_serve, came_skip, came_map, came_grow, came_add, came_send, came_done}
 use Rattle.split_types.specs.Proving.Known.{Known}
 use Rattle.split_types.proofs.Lists.{any_weaker, none_in_filter, any_in_filter, any_push_no, none_in_both}
 use Rattle.split_types.proofs.KeptLists.{case_true, case_false}
 use Rattle.split_types.proofs.WaitingLaws.{number_here}
-use Rattle.split_types.proofs.HeldLaws.{same_buf-is, same_buf-self}
+use Rattle.split_types.proofs.FileLaws.{live_of}
+use Rattle.split_types.proofs.HeldLaws.{same_buf-is, same_buf-self, reads_some}
 use Rattle.split_types.proofs.VictimLaws.{victims_are_oldest}
-use Rattle.split_types.proofs.NumberLaws.{Numbers, reads_some, idle_flight}
+use Rattle.split_types.proofs.NumberLaws.{Numbers, idle_flight}
 
 -- process p added a read since it last put, got or returned
 abbrev pub has_asked : List Event → ℕ → Bool
@@ -86,7 +90,7 @@ coming_any b id rs there = elim (cases_Bool (list_any (λ r. reads r b) rs)) [
       (λ r is. (and_parts (reads r b) (is_numbered id r) is).0) none) there)
 ]
 
--- such a page is held
+-- such a page is held where its file is there
 pub kept_held : (w : Workload) (h : List Event) (p : ℕ) (b : Buf) → is_live_page w h b ≡ true → IsKept h p b
     → is_held w h b ≡ true
 kept_held w h p b live (inl coming) =
@@ -149,10 +153,10 @@ kept_ret h q r p b other (inr here) = inr (record {
 })
 
 -- through an eviction: a page that is pinned isn't evicted
-kept_evict : (w : Workload) (h : List Event) (q : Pid) (s : Serial) (g p : ℕ) (b : Buf) → is_live_page w h b ≡ true
+kept_evict : (w : Workload) (h : List Event) (q : Pid) (s : Serial) (g p : ℕ) (b : Buf)
     → victim w h ≡ Some (Page s g) → IsKept h p b → IsKept (h ▹ Evict q s g) p b
-kept_evict w h q s g p b live found (inl coming) = inl coming
-kept_evict w h q s g p b live found (inr here) =
+kept_evict w h q s g p b found (inl coming) = inl coming
+kept_evict w h q s g p b found (inr here) =
     inr (record {
       placed_is = and_from (not (same_buf b (Page s g))) (is_placed h b)
           (not_from_false (same_buf b (Page s g)) other) here.placed_is;
@@ -160,19 +164,20 @@ kept_evict w h q s g p b live found (inr here) =
       idle = here.idle;
     })
   where
-    pinned : is_pinned w h b ≡ true
-    pinned = and_from (is_live_page w h b) (is_some (pinned_by h b)) live (ap is_some here.pinner_is)
-
-    spared : (x u l p : Bool) → (x && not (u || l || p)) ≡ true → p ≡ true → ⊥
-    spared x u l p may is = absurd (grind (arith, may, is))
+    -- what may be evicted is a page of a file that is there, and isn't pinned
+    spared : (live load placed unsettled pinned : Bool)
+        → (((live && load) || (live && placed)) && not (unsettled || (live && load) || (live && pinned))) ≡ true
+        → pinned ≡ true → ⊥
+    spared live load placed unsettled pinned may is = absurd (grind (arith, may, is))
 
     other : same_buf b (Page s g) ≡ false
     other = elim (cases_Bool (same_buf b (Page s g))) [
       | inr apart ↦ apart
       | inl same ↦
-          absurd (spared (is_held w h b) (is_unsettled w h b) (is_loading w h b) (is_pinned w h b)
+          absurd (spared (is_live_page w h b) (list_any (λ r. reads r b) (outstanding h)) (is_placed h b)
+          (is_unsettled w h b) (is_some (pinned_by h b))
           (subst (λ x. is_evictable w h x ≡ true) (sym (same_buf-is b (Page s g) same))
-          (victims_are_oldest.some w h (Page s g) found).evictable) pinned)
+          (victims_are_oldest.some w h (Page s g) found).evictable) (ap is_some here.pinner_is))
     ]
 
 -- through an add of a request that doesn't read the page
@@ -207,14 +212,14 @@ kept_add h by r p b new unread (inr here) = inr (record {
   idle = any_push_no (λ q. reads q b) (outstanding h) r unread ∙ here.idle;
 })
 
--- a page that isn't held isn't the one that is kept
-not_read : (w : Workload) (h : List Event) (p : ℕ) (b c : Buf) → is_live_page w h b ≡ true → is_held w h c ≡ false
+-- a page of a file that is there, and that isn't held, isn't the one that is kept
+not_read : (w : Workload) (h : List Event) (p : ℕ) (b c : Buf) → is_live_page w h c ≡ true → is_held w h c ≡ false
     → IsKept h p b → same_buf b c ≡ false
 not_read w h p b c live absent kept = elim (cases_Bool (same_buf b c)) [
   | inr other ↦ other
   | inl same ↦
       absurd (both_ways (is_held w h c) absent
-      (subst (λ x. is_held w h x ≡ true) (same_buf-is b c same) (kept_held w h p b live kept)))
+      (kept_held w h p c live (subst (IsKept h p) (same_buf-is b c same) kept)))
 ]
 
 -- through a completion: of the read that was coming
@@ -305,33 +310,48 @@ pub not_by : (b a : Bool) → (not b && a) ≡ true → (b ≡ false) × (a ≡ 
 not_by true a is = absurd (cc)
 not_by false a is = (refl, is)
 
--- a page stays kept for a process as long as that doesn't put, get or return
+-- a page stays kept for a process as long as that doesn't put, get or return, even where its file is dropped meanwhile
 pub kept_next : (w : Workload) (h : List Event) (e : Event) (p : ℕ) (b : Buf) → Known w h → Numbers h → Came w h e
-    → is_live_page w h b ≡ true → has_asked (h ▹ e) p ≡ true → IsKept h p b → IsKept (h ▹ e) p b
-kept_next w h e p b f n (came_enter q c has out) live asked k = k
-kept_next w h e p b f n (came_admit q c has in' out may) live asked k = k
-kept_next w h e p b f n (came_no_file q c admitted none) live asked k =
+    → has_asked (h ▹ e) p ≡ true → IsKept h p b → IsKept (h ▹ e) p b
+kept_next w h e p b f n (came_enter q c has out) asked k = k
+kept_next w h e p b f n (came_admit q c has in' out may) asked k = k
+kept_next w h e p b f n (came_make q name slot admitted idle unused at) asked k = k
+kept_next w h e p b f n (came_drop q name serial working idle) asked k = k
+kept_next w h e p b f n (came_no_file q c admitted none) asked k =
     kept_ret h q reply.NoFile p b (not_by (q.0 == p) (has_asked h p) asked).0 k
-kept_next w h e p b f n (came_wrote q name off len fill s working none) live asked k =
+kept_next w h e p b f n (came_changed q c admitted names acted) asked k =
     kept_ret h q reply.Done p b (not_by (q.0 == p) (has_asked h p) asked).0 k
-kept_next w h e p b f n (came_read q name off len s working none) live asked k =
+kept_next w h e p b f n (came_exists q name admitted idle taken) asked k =
+    kept_ret h q reply.Exists p b (not_by (q.0 == p) (has_asked h p) asked).0 k
+kept_next w h e p b f n (came_no_slot q name admitted idle unused none) asked k =
+    kept_ret h q reply.NoSlot p b (not_by (q.0 == p) (has_asked h p) asked).0 k
+kept_next w h e p b f n (came_too_big q name off len fill s working big) asked k =
+    kept_ret h q reply.TooBig p b (not_by (q.0 == p) (has_asked h p) asked).0 k
+kept_next w h e p b f n (came_no_space q name off len fill s piece here out none) asked k =
+    kept_ret h q (reply.NoSpace (moved h q.0)) p b (not_by (q.0 == p) (has_asked h p) asked).0 k
+kept_next w h e p b f n (came_wrote q name off len fill s working none) asked k =
+    kept_ret h q reply.Done p b (not_by (q.0 == p) (has_asked h p) asked).0 k
+kept_next w h e p b f n (came_read q name off len s working none) asked k =
     kept_ret h q (reply.Count (moved h q.0) (got h q.0)) p b (not_by (q.0 == p) (has_asked h p) asked).0 k
-kept_next w h e p b f n (came_fault q c s piece working left bad) live asked k =
+kept_next w h e p b f n (came_fault q c s piece working left bad) asked k =
     kept_ret h q reply.ReadFault p b (not_by (q.0 == p) (has_asked h p) asked).0 k
-kept_next w h e p b f n (came_put q name off len fill s piece here may) live asked k =
+kept_next w h e p b f n (came_put q name off len fill s piece here may) asked k =
     kept_put h q s piece.page piece.from piece.to fill p b (not_by (q.0 == p) (has_asked h p) asked).0 k
-kept_next w h e p b f n (came_get q name off len s piece here held) live asked k =
+kept_next w h e p b f n (came_get q name off len s piece here held) asked k =
     kept_get h q s piece.page piece.from piece.to (sum_of_bytes w h s piece.page piece.from piece.to) p b
     (not_by (q.0 == p) (has_asked h p) asked).0 k
-kept_next w h e p b f n (came_zeros q name off len s piece here absent none) live asked k =
+kept_next w h e p b f n (came_zeros q name off len s piece here absent none) asked k =
     kept_get h q s piece.page piece.from piece.to 0 p b (not_by (q.0 == p) (has_asked h p) asked).0 k
-kept_next w h e p b f n (came_evict q c s piece here absent t g found) live asked k =
-    kept_evict w h q t g p b live found k
-kept_next w h e p b f n (came_load q c s piece here absent block at) live asked k =
+kept_next w h e p b f n (came_evict q c s piece here absent t g found) asked k =
+    kept_evict w h q t g p b found k
+kept_next w h e p b f n (came_load q c s piece here absent block at) asked k =
     kept_add h (Client q) (read_request (adds h) q s piece.page block) p b refl
-    (not_read w h p b (Page s piece.page) live absent.absent k) k
-kept_next w h e p b f n (came_serve s g idle found) live asked k = k
-kept_next w h e p b f n (came_add run at) live asked k =
-    kept_add h Wb (request_for w (adds h) run) p b refl refl k
-kept_next w h e p b f n (came_send r free picked) live asked k = k
-kept_next w h e p b f n (came_done j r at) live asked k = kept_done w h j r p b f n at k
+    (not_read w h p b (Page s piece.page) (live_of w h (bound_file w h q.0) s here.working.file) absent.absent k) k
+kept_next w h e p b f n (came_serve run idle found) asked k = k
+kept_next w h e p b f n (came_skip run at gone) asked k = k
+kept_next w h e p b f n (came_map run free serves there none at) asked k = k
+kept_next w h e p b f n (came_grow run block serves there at short) asked k = k
+kept_next w h e p b f n (came_add run block at there placed long) asked k =
+    kept_add h Wb (request_for (adds h) run block) p b refl refl k
+kept_next w h e p b f n (came_send r free picked) asked k = k
+kept_next w h e p b f n (came_done j r at) asked k = kept_done w h j r p b f n at k

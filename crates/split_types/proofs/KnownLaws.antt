@@ -1,50 +1,46 @@
 -- What is known of every legal history of an accepted workload, event by event.
-use Rattle.std.proofs.Common.{◌≡◌, ℕ, ◌+◌, ◌-◌, ◌==◌, ◌<◌, ◌≤◌, List, [], ◌∷◌, ◌++◌, slice_get, filter, option_map, unwrap_or, length, Bool, true, false, not, ◌&&◌, ◌||◌, ◌⊎◌, Option, Some, None, refl, arith, subst, sym, inl, inr, ◌∙◌, ap, cond, nat_lt, if◌then◌else◌}
+use Rattle.std.proofs.Common.{◌≡◌, ℕ, zero, suc, ◌+◌, ◌-◌, ◌==◌, ◌<◌, ◌≤◌, List, [], ◌∷◌, ◌++◌, slice_get, filter, Bool, true, false, not, ◌⊎◌, Option, Some, None, refl, arith, subst, sym, inl, inr, ◌∙◌, ap, cond, nat_lt, if◌then◌else◌}
 use Rattle.std.specs.List.{list_any}
 use Rattle.std.proofs.lemmas.Bool.{cond_both, cond-false, ne_eqb, eqb-true, cases_Bool}
 use Rattle.std.proofs.lemmas.Bool.Decides.{nat_tests}
-use Rattle.std.proofs.lemmas.Option.{slice_get_within, same_Some}
+use Rattle.std.proofs.lemmas.Option.{slice_get_within}
 use Rattle.split_types.specs.declared.ids.Pid.{Pid}
 use Rattle.split_types.specs.declared.ids.Serial.{Serial}
 use Rattle.split_types.specs.declared.buf.Buf.TheVariants.{Page}
-use Rattle.split_types.specs.declared.call.Call.{Call}
-use Rattle.split_types.specs.declared.call.Call.TheVariants.{Write, Read}
-use Rattle.split_types.specs.declared.call.Reply.{Reply}
-use Rattle.split_types.specs.declared.call.Reply.TheVariants as reply
 use Rattle.split_types.specs.declared.request.Request.{Request}
 use Rattle.split_types.specs.declared.request.Run.{Run}
-use Rattle.split_types.specs.declared.workload.Preset.{Preset}
 use Rattle.split_types.specs.declared.workload.Workload.{Workload}
 use Rattle.split_types.specs.declared.facts.ReqState.{ReqState}
 use Rattle.split_types.specs.declared.facts.ReqState.TheVariants as state
 use Rattle.split_types.specs.declared.event.Event.{Event}
-use Rattle.split_types.specs.declared.event.Event.TheVariants.{Get, Ret}
+use Rattle.split_types.specs.declared.event.Event.TheVariants.{Make}
 use Rattle.split_types.specs.History.{◌▹◌, adds}
 use Rattle.split_types.specs.Hooks.{maker, covers, is_among}
 use Rattle.split_types.specs.Requests.{is_numbered, is_write, requests, queued, in_flight, unfinished, state_of, sends}
 use Rattle.split_types.specs.CostAndClock.{head, cost_at, cost_of, now, first_of, length_of, seek, distance}
-use Rattle.split_types.specs.Calls.{is_admitted, moved, call_of, name_of}
-use Rattle.split_types.specs.Files.{live_named, file_for, bound_file}
 use Rattle.split_types.specs.Pages.{is_ready}
-use Rattle.split_types.specs.Workloads.{pages_in, page_block, file_named}
 use Rattle.split_types.specs.FileMaps.{mapped_block}
-use Rattle.split_types.specs.PageBytes.{sum_of_bytes}
-use Rattle.split_types.specs.Pieces.{Piece, got}
 use Rattle.split_types.specs.Schedulers.{pick, earlier, eligible_write, is_eligible, oldest_read, oldest_write}
-use Rattle.split_types.specs.Writeback.{service, request_for}
+use Rattle.split_types.specs.Writeback.{service, served_run}
+use Rattle.split_types.specs.Serving.{request_for}
+use Rattle.split_types.specs.ServedRuns.{are_apart}
+use Rattle.split_types.specs.FilesInOrder.{all_files}
+use Rattle.split_types.specs.MapsInOrder.{AreMaps, IsServed, MapsAreInOrder}
 use Rattle.split_types.specs.Next.{send_of}
 use Rattle.split_types.specs.Accepted.{IsAccepted}
 use Rattle.split_types.specs.Legal.{IsLegal}
 use Rattle.split_types.specs.Proving.Came.{Came, read_request}
-use Rattle.split_types.specs.Proving.Came.Came.{came_enter, came_admit, came_no_file, came_wrote, came_read, came_fault, came_put, came_get, came_zeros, came_evict, came_load, came_serve, came_add, came_send, came_done}
-use Rattle.split_types.specs.Proving.Runs.{MovesRun, ServesReady, readiness}
-use Rattle.split_types.specs.Proving.Known.{Known, AreUnmade, MoveRuns, TakeOnce, IsBound, AreSmall, RiseTo, is_moving, dones}
-use Rattle.split_types.proofs.AcceptedLaws.{data_from, data_within}
+use Rattle.split_types.specs.Proving.Came.Came.{came_enter, came_admit, came_changed, came_exists, came_no_slot, came_make, came_drop, came_no_file, came_too_big}
+use Rattle.split_types.specs.Proving.Came.Came.{came_wrote, came_read, came_fault, came_no_space, came_put, came_get, came_zeros, came_evict, came_load}
+use Rattle.split_types.specs.Proving.Came.Came.{came_serve, came_skip, came_map, came_grow, came_add, came_send, came_done}
+use Rattle.split_types.specs.Proving.Runs.{MovesRun}
+use Rattle.split_types.specs.Proving.Known.{Known, AreUnmade, MoveRuns, TakeOnce, AreSmall, RiseTo, dones}
 use Rattle.split_types.proofs.CameLaws.{came}
+use Rattle.split_types.proofs.MapLaws.{maps_are_in_order}
+use Rattle.split_types.proofs.PromiseLaws.{promised}
 use Rattle.split_types.proofs.Lists.{slice_get-push, find_there, count_push, count_none, count_filter_less}
-use Rattle.split_types.proofs.PageLaws.{file_within}
 use Rattle.split_types.proofs.WaitingLaws.{numbered_push, waiting_add, waiting_send, waiting_done}
-use Rattle.split_types.proofs.ReadyLaws.{ready_parts, ready_put, ready_load, ready_done, serves_stay, first_ready, serve_ready}
+use Rattle.split_types.proofs.ReadyLaws.{ready_parts}
 
 -- ---- what is picked is queued
 earlier_is : (a b : Option Request) (r : Request) → earlier a b ≡ Some r → (a ≡ Some r) ⊎ (b ≡ Some r)
@@ -83,10 +79,11 @@ same_serial : (s t : Serial) → s.0 ≡ t.0 → s ≡ t
 same_serial s t e = ap (λ n. record { 0 = n }) e
 
 -- a page of a run that is ready isn't taken
-pub take_add : (w : Workload) (h : List Event) (run : Run) → ServesReady w (readiness w h) run
-    → TakeOnce (unfinished h) → TakeOnce (unfinished h ++ request_for w (adds h) run ∷ [])
-take_add w h run serves once s g =
-    let more = count_push (λ r. covers r (Page s g)) (unfinished h) (request_for w (adds h) run)
+pub take_add : (w : Workload) (h : List Event) (run : Run) (block : ℕ)
+    → ((k : ℕ) → k < run.n → is_ready w h (Page run.serial (run.page + k)) ≡ true)
+    → TakeOnce (unfinished h) → TakeOnce (unfinished h ++ request_for (adds h) run block ∷ [])
+take_add w h run block all_ready once s g =
+    let more = count_push (λ r. covers r (Page s g)) (unfinished h) (request_for (adds h) run block)
     in elim (cases_Bool (is_among run.serial run.page run.n (Page s g))) [
       | inr other ↦ omega (arith, more, out other, once s g)
       | inl among ↦
@@ -110,7 +107,7 @@ take_add w h run serves once s g =
     idle among =
         let within : (run.serial.0 ≡ s.0) × (run.page ≤ g) × (g < run.page + run.n) = grind (arith, nat_tests)
         in let offset : run.page + (g - run.page) ≡ g = omega (arith, within)
-        in let here = serves.all_ready (g - run.page) (omega (arith, within))
+        in let here = all_ready (g - run.page) (omega (arith, within))
         in let ready : is_ready w h (Page s g) ≡ true =
         subst (λ k. is_ready w h (Page s k) ≡ true) offset
         (subst (λ t. is_ready w h (Page t (run.page + (g - run.page))) ≡ true)
@@ -153,97 +150,79 @@ rise_filter low (r ∷ rs) high p rise = by_test (p r) (rise_filter (r.id.0 + 1)
     by_test false rest = rise_lower (r.id.0 + 1) low (filter p rs) high (omega (arith, rise.0)) rest
 
 -- ---- runs
-runs_push : (w : Workload) (all : List Request) (r : Request) → MovesRun w r → MoveRuns w all
-    → MoveRuns w (all ++ r ∷ [])
-runs_push w all r run runs i q at =
-    elim (slice_get-push all r i q at) [ inl old ↦ runs i q old | inr new ↦ subst (MovesRun w) new.1 run ]
+runs_push : (total : ℕ) (block_of : ℕ → ℕ → Option ℕ) (all : List Request) (r : Request)
+    → MovesRun total block_of r → MoveRuns total block_of all → MoveRuns total block_of (all ++ r ∷ [])
+runs_push total block_of all r run runs i q at =
+    elim (slice_get-push all r i q at) [
+      | inl old ↦ runs i q old
+      | inr new ↦ subst (MovesRun total block_of) new.1 run
+    ]
+
+-- a request keeps its pages where there come more files, and a page that has a block keeps it
+pub runs_stay : (total more : ℕ) (was now : ℕ → ℕ → Option ℕ) (all : List Request) → total ≤ more
+    → ((s g x : ℕ) → was s g ≡ Some x → now s g ≡ Some x) → MoveRuns total was all → MoveRuns more now all
+runs_stay total more was now all most stays runs i r at =
+    let run = runs i r at
+    in record {
+      serial = run.serial;
+      page = run.page;
+      kind = run.kind;
+      run = record {
+        file = omega (arith, most, run.run.file);
+        some = run.run.some;
+        most = run.run.most;
+        within = run.run.within;
+      };
+      place = λ k below. stays run.serial.0 (run.page + k) ((r.first + k)) (run.place k below);
+    }
+
+-- of two pages that are k pages apart in a run, the second has a block k behind that of the first
+apart_by : (k x : ℕ) (o : Option ℕ) → are_apart k (Some x) o ≡ true → o ≡ Some (x + k)
+apart_by k x None is = absurd (cc)
+apart_by k x (Some y) is = ap Some (eqb-true y (x + k) is)
 
 -- a request for the run that is served writes that run
-pub moves_served : (w : Workload) (ready : Serial → ℕ → Bool) (id : ℕ) (run : Run) → ServesReady w ready run
-    → MovesRun w (request_for w id run)
-moves_served w ready id run serves = record {
+pub moves_served : (w : Workload) (h : List Event) (id : ℕ) (run : Run) (block : ℕ) → IsServed w h run
+    → mapped_block w h run.serial.0 run.page ≡ Some block
+    → MovesRun (all_files w h) (mapped_block w h) (request_for id run block)
+moves_served w h id run block served at = record {
   serial = run.serial;
   page = run.page;
   kind = inl refl;
-  run = serves.run_is;
-  place = refl;
+  run = record { file = served.numbered; some = served.some; most = served.most; within = served.within };
+  place =
+      λ k below. apart_by k block (mapped_block w h run.serial.0 (run.page + k))
+      (subst (λ o. are_apart k o (mapped_block w h run.serial.0 (run.page + k)) ≡ true) at (served.in_a_row k below));
 }
 
--- a page that has a block is one of a preset file, and that is its place
-pub preset_page : (w : Workload) (s g block : ℕ) → mapped_block w [] s g ≡ Some block
-    → (s < length w.files) × (g < pages_in w s) × (block ≡ page_block w s g)
-preset_page w s g block at = by_test (nat_lt g (pages_in w s)) refl at
-  where
-    by_file : (o : Option Preset) → slice_get w.files s ≡ o → g < unwrap_or (option_map (λ f. f.pages) o) 0
-        → s < length w.files
-    by_file None is page = absurd (omega (arith, page))
-    by_file (Some f) is page = slice_get_within w.files s f is
-
-    by_test : (b : Bool) → nat_lt g (pages_in w s) ≡ b → (if b then Some (page_block w s g) else None) ≡ Some block
-        → (s < length w.files) × (g < pages_in w s) × (block ≡ page_block w s g)
-    by_test true is same =
-        let within : g < pages_in w s = grind (arith, nat_tests) in
-        (by_file (slice_get w.files s) refl within, within, sym (same_Some _ _ same))
-    by_test false is same = absurd (cc)
-
-pub moves_load : (w : Workload) (id : ℕ) (by : Pid) (serial : Serial) (page block : ℕ)
-    → mapped_block w [] serial.0 page ≡ Some block → MovesRun w (read_request id by serial page block)
-moves_load w id by serial page block at =
-    let is = preset_page w serial.0 page block at in
+pub moves_load : (w : Workload) (h : List Event) (id : ℕ) (by : Pid) (serial : Serial) (page block : ℕ)
+    → AreMaps w h → mapped_block w h serial.0 page ≡ Some block
+    → MovesRun (all_files w h) (mapped_block w h) (read_request id by serial page block)
+moves_load w h id by serial page block maps at =
+    let is = maps.placed serial.0 page block at in
     record {
       serial = serial;
       page = page;
       kind = inr (by, refl);
-      run = record { file = is.0; some = omega arith; most = omega arith; within = omega (arith, is.1) };
-      place = is.2;
+      run = record { file = is.numbered; some = omega arith; most = omega arith; within = omega (arith, is.page) };
+      place = λ k below. first k (omega (arith, below));
     }
+  where
+    first : (k : ℕ) → k ≡ 0 → mapped_block w h serial.0 (page + k) ≡ Some (block + k)
+    first zero is =
+        let same : page ≡ page + 0 = omega arith
+        in let next : block ≡ block + 0 = omega arith
+        in subst (λ g. mapped_block w h serial.0 g ≡ Some (block + 0)) same
+        (subst (λ x. mapped_block w h serial.0 page ≡ Some x) next at)
+    first (suc k) is = absurd (omega (arith, is))
 
 -- a run ends within the disk
-pub run_within : (w : Workload) (r : Request) → IsAccepted w → MovesRun w r → r.first + r.n ≤ 32768
-run_within w r accepted run =
-    omega (
-      arith,
-      run.place,
-      run.run.within,
-      file_within w run.serial.0 run.run.file,
-      data_from w accepted,
-      data_within w accepted,
-    )
-
-no_service : {A : Type 0} (o : Option Run) (run : Run) → o ≡ None → o ≡ Some run → A
-no_service o run none some = absurd (cc)
-
-same_run : (a b : Run) → Some a ≡ Some b → a ≡ b
-same_run a b e = same_Some a b e
-
--- ---- the file of a call
-bound_admit : (w : Workload) (call : Option Call) (named : List ℕ → Option Serial) (file : Option Serial)
-    (admitted b : Bool)
-    → ((name : List ℕ) → named name ≡ option_map (λ s. record { 0 = s }) (file_named w.files name))
-    → (at_admit : Option Serial)
-    → ((c : Call) → call ≡ Some c → is_moving c ≡ true → at_admit ≡ named (name_of c)) → IsBound w call admitted file → IsBound w call (b || admitted) (cond b at_admit file)
-bound_admit w call named file admitted true is at_admit here bound c at moving ad = here c at moving ∙ is (name_of c)
-bound_admit w call named file admitted false is at_admit here bound c at moving ad = bound c at moving ad
-
-bound_ret : (w : Workload) (call more : Option Call) (file : Option Serial) (admitted b : Bool)
-    → (b ≡ false → more ≡ call) → IsBound w call admitted file
-    → IsBound w more (not b && admitted) (cond b None file)
-bound_ret w call more file admitted true same bound c at moving ad = absurd (cc)
-bound_ret w call more file admitted false same bound c at moving ad = bound c (sym (same refl) ∙ at) moving ad
-
-for_call : (w : Workload) (h : List Event) (c : Call) → is_moving c ≡ true
-    → file_for w h (Some c) ≡ live_named w h (name_of c)
-for_call w h (Write name off len fill) moving = refl
-for_call w h (Read name off len) moving = refl
-for_call w h c moving = absurd (cc)
-
-for_moving : (w : Workload) (h : List Event) (call : Option Call) (c : Call) → call ≡ Some c → is_moving c ≡ true
-    → file_for w h call ≡ live_named w h (name_of c)
-for_moving w h call c is moving = ap (file_for w h) is ∙ for_call w h c moving
-
-call_stays : (w : Workload) (h : List Event) (q : Pid) (r : Reply) (p : ℕ) → (q.0 == p) ≡ false
-    → call_of w (h ▹ Ret q r) p ≡ call_of w h p
-call_stays w h q r p other = rw other refl
+pub run_within : (w : Workload) (h : List Event) (r : Request) → IsAccepted w → AreMaps w h
+    → MovesRun (all_files w h) (mapped_block w h) r → r.first + r.n ≤ w.device
+run_within w h r accepted maps run =
+    let last = run.place (r.n - 1) (omega (arith, run.run.some))
+    in let placed = maps.placed run.serial.0 (run.page + (r.n - 1)) (r.first + (r.n - 1)) last
+    in omega (arith, placed.to, run.run.some)
 
 -- ---- numbers
 pub seek_most : (x : ℕ) → seek x ≤ 100
@@ -254,7 +233,7 @@ pub record RequestOf (w : Workload) (h : List Event) (id : ℕ) (r : Request) : 
   pub number : r.id.0 ≡ id
   pub first_is : first_of h id ≡ r.first
   pub length_is : length_of h id ≡ r.n
-  pub run : MovesRun w r
+  pub run : MovesRun (all_files w h) (mapped_block w h) r
   pub below : id < adds h
 
 pub request_of : (w : Workload) (h : List Event) (id : ℕ) (r : Request) → Known w h
@@ -280,11 +259,18 @@ cost_sent : (w : Workload) (h : List Event) (id : ℕ) (r : Request) → Request
     → cost_at (head h) (first_of h id) (length_of h id) ≤ 132
 cost_sent w h id r of = omega (arith, seek_most (distance (first_of h id) (head h)), of.length_is, of.run.run.most)
 
-small_send : (w : Workload) (h : List Event) (r : Request) → IsAccepted w → RequestOf w h r.id.0 r
+small_send : (w : Workload) (h : List Event) (r : Request) → IsAccepted w → AreMaps w h → RequestOf w h r.id.0 r
     → AreSmall (head h) (cost_of h) (now h) (dones h)
     → AreSmall (head (h ▹ send_of h r)) (cost_of (h ▹ send_of h r)) (now h) (dones h)
-small_send w h r accepted of small = record {
-  head_most = omega (arith, of.first_is, of.length_is, run_within w r accepted of.run);
+small_send w h r accepted maps of small = record {
+  head_most =
+      omega (
+        arith,
+        of.first_is,
+        of.length_is,
+        run_within w h r accepted maps of.run,
+        accepted.workload.machine.device_most,
+      );
   cost_most =
       λ id. cond_both (id == r.id.0) (cost_at (head h) (first_of h id) (length_of h id)) (cost_of h id)
       (λ n. n ≤ 132)
@@ -322,125 +308,240 @@ known_none w = record {
   };
   unmade = record { cost_none = λ id past. refl; state_none = λ id past. refl };
   runs = λ i r at. absurd (cc);
-  serves = λ run at. absurd (cc);
   takes = λ s g. omega arith;
-  files = record { live_is = λ s. refl; named_is = λ name. refl };
-  bound_to = λ p c at moving yes. absurd (cc);
-  maps = λ s g. refl;
   rises = omega arith;
   small = record { head_most = omega arith; cost_most = λ id. omega arith; clock_most = omega arith };
   going = refl;
 }
 
--- a return, with any reply
-known_ret : (w : Workload) (h : List Event) (q : Pid) (r : Reply) → Known w h → Known w (h ▹ Ret q r)
-known_ret w h q r f = record {
-  numbered = f.numbered;
-  waiting = f.waiting;
-  unmade = f.unmade;
-  runs = f.runs;
-  serves = f.serves;
-  takes = f.takes;
-  files = f.files;
-  bound_to =
-      λ p. bound_ret w (call_of w h p) (call_of w (h ▹ Ret q r) p) (bound_file w h p) (is_admitted h p) (q.0 == p)
-      (λ other. call_stays w h q r p other) (f.bound_to p);
-  maps = f.maps;
-  rises = f.rises;
-  small = f.small;
-  going = f.going;
-}
+-- what the maps are before an event and after it
+pub record MapsBoth (w : Workload) (h : List Event) (e : Event) : Type 0 where
+  pub before : AreMaps w h
+  pub files : all_files w h ≤ all_files w (h ▹ e)
+  pub stays : (s g x : ℕ) → mapped_block w h s g ≡ Some x → mapped_block w (h ▹ e) s g ≡ Some x
+  pub served : (run : Run) → served_run (service h) ≡ Some run → IsServed w h run
 
-known_get : (w : Workload) (h : List Event) (p : Pid) (s : Serial) (piece : Piece) (n : ℕ) → Known w h
-    → Known w (h ▹ Get p s piece.page piece.from piece.to n)
-known_get w h p s piece n f = record {
-  numbered = f.numbered;
-  waiting = f.waiting;
-  unmade = f.unmade;
-  runs = f.runs;
-  serves = f.serves;
-  takes = f.takes;
-  files = f.files;
-  bound_to = f.bound_to;
-  maps = f.maps;
-  rises = f.rises;
-  small = f.small;
-  going = f.going;
-}
+runs_next : (w : Workload) (h : List Event) (e : Event) → MapsBoth w h e
+    → MoveRuns (all_files w h) (mapped_block w h) (requests h)
+    → MoveRuns (all_files w (h ▹ e)) (mapped_block w (h ▹ e)) (requests h)
+runs_next w h e maps runs =
+    runs_stay (all_files w h) (all_files w (h ▹ e)) (mapped_block w h) (mapped_block w (h ▹ e)) (requests h) maps.files
+    maps.stays runs
 
 -- one more event that comes next
-pub known_next : (w : Workload) (h : List Event) (e : Event) → IsAccepted w → Known w h → Came w h e → Known w (h ▹ e)
-known_next w h e accepted f (came_enter p c has out) =
-    record {
-      numbered = f.numbered;
-      waiting = f.waiting;
-      unmade = f.unmade;
-      runs = f.runs;
-      serves = f.serves;
-      takes =
-          f.takes;
-      files = f.files;
-      bound_to = f.bound_to;
-      maps = f.maps;
-      rises = f.rises;
-      small = f.small;
-      going = f.going;
-    }
-known_next w h e accepted f (came_admit q c has is out may) = record {
+pub known_next : (w : Workload) (h : List Event) (e : Event) → IsAccepted w → MapsBoth w h e → Known w h → Came w h e
+    → Known w (h ▹ e)
+known_next w h e accepted maps f (came_enter p c has out) = record {
   numbered = f.numbered;
   waiting = f.waiting;
   unmade = f.unmade;
-  runs = f.runs;
-  serves = f.serves;
+  runs = runs_next w h e maps f.runs;
   takes = f.takes;
-  files = f.files;
-  bound_to =
-      λ p. bound_admit w (call_of w h p) (live_named w h) (bound_file w h p) (is_admitted h p)
-      (q.0 == p) f.files.named_is (file_for w h (call_of w h p)) (for_moving w h (call_of w h p)) (f.bound_to p);
-  maps = f.maps;
   rises = f.rises;
   small = f.small;
   going = f.going;
 }
-known_next w h e accepted f (came_put p name off len fill s piece here may) = record {
+known_next w h e accepted maps f (came_admit q c has is out may) = record {
   numbered = f.numbered;
   waiting = f.waiting;
   unmade = f.unmade;
-  runs = f.runs;
-  serves =
-      serves_stay w (readiness w h) (readiness w (h ▹ e)) (service h)
-      (λ t g ready. ready_put w h t g p s piece.page piece.from piece.to fill ready) f.serves;
+  runs = runs_next w h e maps f.runs;
   takes = f.takes;
-  files = f.files;
-  bound_to = f.bound_to;
-  maps = f.maps;
   rises = f.rises;
   small = f.small;
   going = f.going;
 }
-known_next w h e accepted f (came_no_file q c admitted none) = known_ret w h q reply.NoFile f
-known_next w h e accepted f (came_wrote q name off len fill s working none) = known_ret w h q reply.Done f
-known_next w h e accepted f (came_read q name off len s working none) =
-    known_ret w h q (reply.Count (moved h q.0) (got h q.0)) f
-known_next w h e accepted f (came_fault q c s piece working left bad) = known_ret w h q reply.ReadFault f
-known_next w h e accepted f (came_get p name off len s piece here held) =
-    known_get w h p s piece (sum_of_bytes w h s piece.page piece.from piece.to) f
-known_next w h e accepted f (came_zeros p name off len s piece here absent none) = known_get w h p s piece 0 f
-known_next w h e accepted f (came_evict p c s piece here absent t g found) = record {
+known_next w h e accepted maps f (came_changed p c admitted names acted) = record {
   numbered = f.numbered;
   waiting = f.waiting;
   unmade = f.unmade;
-  runs = f.runs;
-  serves = f.serves;
+  runs = runs_next w h e maps f.runs;
   takes = f.takes;
-  files = f.files;
-  bound_to = f.bound_to;
-  maps = f.maps;
   rises = f.rises;
   small = f.small;
   going = f.going;
 }
-known_next w h e accepted f (came_load p c s piece here absent block at) =
+known_next w h e accepted maps f (came_exists p name admitted idle taken) = record {
+  numbered = f.numbered;
+  waiting = f.waiting;
+  unmade = f.unmade;
+  runs = runs_next w h e maps f.runs;
+  takes = f.takes;
+  rises = f.rises;
+  small = f.small;
+  going = f.going;
+}
+known_next w h e accepted maps f (came_no_slot p name admitted idle unused none) = record {
+  numbered = f.numbered;
+  waiting = f.waiting;
+  unmade = f.unmade;
+  runs = runs_next w h e maps f.runs;
+  takes = f.takes;
+  rises = f.rises;
+  small = f.small;
+  going = f.going;
+}
+known_next w h e accepted maps f (came_make p name slot admitted idle unused at) = record {
+  numbered = f.numbered;
+  waiting = f.waiting;
+  unmade = f.unmade;
+  runs = runs_next w h e maps f.runs;
+  takes = f.takes;
+  rises = f.rises;
+  small = f.small;
+  going = f.going;
+}
+known_next w h e accepted maps f (came_drop p name serial working idle) = record {
+  numbered = f.numbered;
+  waiting = f.waiting;
+  unmade = f.unmade;
+  runs = runs_next w h e maps f.runs;
+  takes = f.takes;
+  rises = f.rises;
+  small = f.small;
+  going = f.going;
+}
+known_next w h e accepted maps f (came_no_file q c admitted none) = record {
+  numbered = f.numbered;
+  waiting = f.waiting;
+  unmade = f.unmade;
+  runs = runs_next w h e maps f.runs;
+  takes = f.takes;
+  rises = f.rises;
+  small = f.small;
+  going = f.going;
+}
+known_next w h e accepted maps f (came_too_big p name off len fill s working big) = record {
+  numbered = f.numbered;
+  waiting = f.waiting;
+  unmade = f.unmade;
+  runs = runs_next w h e maps f.runs;
+  takes = f.takes;
+  rises = f.rises;
+  small = f.small;
+  going = f.going;
+}
+known_next w h e accepted maps f (came_wrote q name off len fill s working none) = record {
+  numbered = f.numbered;
+  waiting = f.waiting;
+  unmade = f.unmade;
+  runs = runs_next w h e maps f.runs;
+  takes = f.takes;
+  rises = f.rises;
+  small = f.small;
+  going = f.going;
+}
+known_next w h e accepted maps f (came_read q name off len s working none) = record {
+  numbered = f.numbered;
+  waiting = f.waiting;
+  unmade = f.unmade;
+  runs = runs_next w h e maps f.runs;
+  takes = f.takes;
+  rises = f.rises;
+  small = f.small;
+  going = f.going;
+}
+known_next w h e accepted maps f (came_fault q c s piece working left bad) = record {
+  numbered = f.numbered;
+  waiting = f.waiting;
+  unmade = f.unmade;
+  runs = runs_next w h e maps f.runs;
+  takes = f.takes;
+  rises = f.rises;
+  small = f.small;
+  going = f.going;
+}
+known_next w h e accepted maps f (came_no_space p name off len fill s piece here out none) = record {
+  numbered = f.numbered;
+  waiting = f.waiting;
+  unmade = f.unmade;
+  runs = runs_next w h e maps f.runs;
+  takes = f.takes;
+  rises = f.rises;
+  small = f.small;
+  going = f.going;
+}
+known_next w h e accepted maps f (came_put p name off len fill s piece here may) = record {
+  numbered = f.numbered;
+  waiting = f.waiting;
+  unmade = f.unmade;
+  runs = runs_next w h e maps f.runs;
+  takes = f.takes;
+  rises = f.rises;
+  small = f.small;
+  going = f.going;
+}
+known_next w h e accepted maps f (came_get p name off len s piece here held) = record {
+  numbered = f.numbered;
+  waiting = f.waiting;
+  unmade = f.unmade;
+  runs = runs_next w h e maps f.runs;
+  takes = f.takes;
+  rises = f.rises;
+  small = f.small;
+  going = f.going;
+}
+known_next w h e accepted maps f (came_zeros p name off len s piece here absent none) = record {
+  numbered = f.numbered;
+  waiting = f.waiting;
+  unmade = f.unmade;
+  runs = runs_next w h e maps f.runs;
+  takes = f.takes;
+  rises = f.rises;
+  small = f.small;
+  going = f.going;
+}
+known_next w h e accepted maps f (came_evict p c s piece here absent t g found) = record {
+  numbered = f.numbered;
+  waiting = f.waiting;
+  unmade = f.unmade;
+  runs = runs_next w h e maps f.runs;
+  takes = f.takes;
+  rises = f.rises;
+  small = f.small;
+  going = f.going;
+}
+known_next w h e accepted maps f (came_serve run idle found) = record {
+  numbered = f.numbered;
+  waiting = f.waiting;
+  unmade = f.unmade;
+  runs = runs_next w h e maps f.runs;
+  takes = f.takes;
+  rises = f.rises;
+  small = f.small;
+  going = f.going;
+}
+known_next w h e accepted maps f (came_skip run at gone) = record {
+  numbered = f.numbered;
+  waiting = f.waiting;
+  unmade = f.unmade;
+  runs = runs_next w h e maps f.runs;
+  takes = f.takes;
+  rises = f.rises;
+  small = f.small;
+  going = f.going;
+}
+known_next w h e accepted maps f (came_map run free serves there none at) = record {
+  numbered = f.numbered;
+  waiting = f.waiting;
+  unmade = f.unmade;
+  runs = runs_next w h e maps f.runs;
+  takes = f.takes;
+  rises = f.rises;
+  small = f.small;
+  going = f.going;
+}
+known_next w h e accepted maps f (came_grow run block serves there at short) = record {
+  numbered = f.numbered;
+  waiting = f.waiting;
+  unmade = f.unmade;
+  runs = runs_next w h e maps f.runs;
+  takes = f.takes;
+  rises = f.rises;
+  small = f.small;
+  going = f.going;
+}
+known_next w h e accepted maps f (came_load p c s piece here absent block at) =
     let r = read_request (adds h) p s piece.page block
     in record {
       numbered = numbered_push (requests h) (adds h) (first_of h) (length_of h) r refl f.numbered;
@@ -449,59 +550,33 @@ known_next w h e accepted f (came_load p c s piece here absent block at) =
           f.numbered.counted f.waiting;
       unmade = unmade_add (adds h) (cost_of h) (state_of h) f.unmade;
       runs =
-          runs_push w (requests h) r
-          (moves_load w (adds h) p s piece.page block (sym (f.maps s.0 piece.page) ∙ at)) f.runs;
-      serves =
-          serves_stay w (readiness w h) (readiness w (h ▹ e)) (service h)
-          (λ t g ready. ready_load w h t g p s piece.page block ready) f.serves;
+          runs_push (all_files w h) (mapped_block w h) (requests h) r
+          (moves_load w h (adds h) p s piece.page block maps.before at) f.runs;
       takes =
           λ t g. omega (arith, count_push (λ q. covers q (Page t g)) (unfinished h) r, f.takes t g);
-      files = f.files;
-      bound_to = f.bound_to;
-      maps = f.maps;
       rises = rise_push 0 (queued h) (adds h) r refl f.rises;
       small = f.small;
       going = f.going;
     }
-known_next w h e accepted f (came_serve s g idle found) = record {
-  numbered = f.numbered;
-  waiting = f.waiting;
-  unmade = f.unmade;
-  runs = f.runs;
-  serves =
-      λ run at. subst (ServesReady w (readiness w h)) (same_run _ run at)
-      (serve_ready w h s g (first_ready w h s g found));
-  takes = f.takes;
-  files = f.files;
-  bound_to = f.bound_to;
-  maps = f.maps;
-  rises = f.rises;
-  small = f.small;
-  going = f.going;
-}
-known_next w h e accepted f (came_add run at) =
-    let serves = f.serves run at
+known_next w h e accepted maps f (came_add run block at there placed known) =
+    let served = maps.served run at
     in record {
       numbered =
           numbered_push (requests h) (adds h) (first_of h) (length_of h)
-          (request_for w (adds h) run) refl f.numbered;
+          (request_for (adds h) run block) refl f.numbered;
       waiting =
           waiting_add (requests h) (queued h) (in_flight h) (unfinished h) (sends h) (dones h)
-          (request_for w (adds h) run) f.numbered.counted f.waiting;
+          (request_for (adds h) run block) f.numbered.counted f.waiting;
       unmade = unmade_add (adds h) (cost_of h) (state_of h) f.unmade;
       runs =
-          runs_push w (requests h) (request_for w (adds h) run)
-          (moves_served w (readiness w h) (adds h) run serves) f.runs;
-      serves = λ next is. no_service None next refl is;
-      takes = take_add w h run serves f.takes;
-      files = f.files;
-      bound_to = f.bound_to;
-      maps = f.maps;
-      rises = rise_push 0 (queued h) (adds h) (request_for w (adds h) run) refl f.rises;
+          runs_push (all_files w h) (mapped_block w h) (requests h) (request_for (adds h) run block)
+          (moves_served w h (adds h) run block served placed) f.runs;
+      takes = take_add w h run block (served.ready there) f.takes;
+      rises = rise_push 0 (queued h) (adds h) (request_for (adds h) run block) refl f.rises;
       small = f.small;
       going = f.going;
     }
-known_next w h e accepted f (came_send r free picked) =
+known_next w h e accepted maps f (came_send r free picked) =
     let there = picked_there w h r accepted picked
     in let of = queued_of w h there.0 r f there.1
     in record {
@@ -511,13 +586,9 @@ known_next w h e accepted f (came_send r free picked) =
           (dones h) there.0 r there.1 f.waiting;
       unmade = sent_unmade r of.below;
       runs = f.runs;
-      serves = f.serves;
       takes = f.takes;
-      files = f.files;
-      bound_to = f.bound_to;
-      maps = f.maps;
       rises = rise_filter 0 (queued h) (adds h) (λ q. not (is_numbered r.id q)) f.rises;
-      small = small_send w h r accepted of f.small;
+      small = small_send w h r accepted maps.before of f.small;
       going = f.going;
     }
   where
@@ -529,28 +600,41 @@ known_next w h e accepted f (came_send r free picked) =
           ∙ f.unmade.cost_none id past;
       state_none = f.unmade.state_none;
     }
-known_next w h e accepted f (came_done k r at) = record {
+known_next w h e accepted maps f (came_done k r at) = record {
   numbered = f.numbered;
   waiting = waiting_done (requests h) (queued h) (in_flight h) (unfinished h) (sends h) (dones h) k r at f.waiting;
   unmade = unmade_done (adds h) r.id.0 state.Done (cost_of h) (state_of h) (flight_of w h k r f at).below f.unmade;
   runs = f.runs;
-  serves =
-      serves_stay w (readiness w h) (readiness w (h ▹ e)) (service h)
-      (λ t g ready. ready_done w h t g k r.id ready) f.serves;
   takes =
       λ s g. omega (
         arith,
         count_filter_less (λ q. covers q (Page s g)) (λ q. not (is_numbered r.id q)) (unfinished h),
         f.takes s g,
       );
-  files = f.files;
-  bound_to = f.bound_to;
-  maps = f.maps;
   rises = f.rises;
   small = small_done (head h) (cost_of h) (now h) (dones h) r.id.0 f.small;
   going = f.going;
 }
 
+-- ---- files and maps are in order
+pub maps_known : MapsAreInOrder
+maps_known = maps_are_in_order promised
+
+-- there come more files with each event, and none fewer
+pub more_files : (w : Workload) (h : List Event) (e : Event) → all_files w h ≤ all_files w (h ▹ e)
+more_files w h (Make by slot serial) = omega arith
+more_files w h e = omega arith
+
+maps_both : (w : Workload) (h : List Event) (e : Event) → IsAccepted w → IsLegal w (h ▹ e) → MapsBoth w h e
+maps_both w h e accepted legal = record {
+  before = maps_known.maps w h accepted legal.1;
+  files = more_files w h e;
+  stays = λ s g x at. maps_known.stays w h e s g x accepted legal at;
+  served = λ run at. maps_known.served w h run accepted legal.1 at;
+}
+
 pub known : (w : Workload) (h : List Event) → IsAccepted w → IsLegal w h → Known w h
 known w [] accepted legal = known_none w
-known w (h ▹ e) accepted legal = known_next w h e accepted (known w h accepted legal.1) (came w h (maker e) e legal.0)
+known w (h ▹ e) accepted legal =
+    known_next w h e accepted (maps_both w h e accepted legal) (known w h accepted legal.1)
+    (came w h (maker e) e legal.0)

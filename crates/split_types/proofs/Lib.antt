@@ -60,3 +60,16 @@ pub mod CacheRuns
 pub mod CacheNumbers
 pub mod PlacedLaws
 pub mod SizeLaws
+pub mod FileLaws
+pub mod MapBlocks
+pub mod MapRuns
+pub mod MapFree
+pub mod MapState
+pub mod MapSteps
+pub mod MapPlacing
+pub mod MapStart
+pub mod MapLaws
+pub mod PromiseCounts
+pub mod PromiseFree
+pub mod PromisePages
+pub mod PromiseLaws

@@ -20,18 +20,20 @@ use Rattle.split_types.specs.Hooks.{maker}
 use Rattle.split_types.specs.Calls.{returned, is_entered, is_admitted, moved}
 use Rattle.split_types.specs.Files.{bound_file}
 use Rattle.split_types.specs.PageBytes.{sum_of_bytes}
-use Rattle.split_types.specs.FileSizes.{working_file}
 use Rattle.split_types.specs.Pieces.{Piece, piece_left, got}
 use Rattle.split_types.specs.Reads.{reads, outstanding}
 use Rattle.split_types.specs.HeldPages.{is_held}
 use Rattle.split_types.specs.Accepted.{IsAccepted}
 use Rattle.split_types.specs.Legal.{IsLegal}
 use Rattle.split_types.specs.Proving.Came.{Came, IsAtPiece, read_request}
-use Rattle.split_types.specs.Proving.Came.Came.{came_enter, came_admit, came_no_file, came_wrote, came_read, came_fault, came_put, came_get, came_zeros, came_evict, came_load, came_serve, came_add, came_send, came_done}
+use Rattle.split_types.specs.Proving.Came.Came.{came_enter, came_admit, came_changed, came_exists, came_no_slot, came_make, came_drop, came_no_file, came_too_big}
+use Rattle.split_types.specs.Proving.Came.Came.{came_wrote, came_read, came_fault, came_no_space, came_put, came_get, came_zeros, came_evict, came_load}
+use Rattle.split_types.specs.Proving.Came.Came.{came_serve, came_skip, came_map, came_grow, came_add, came_send, came_done}
 use Rattle.split_types.specs.Proving.Known.{Known}
 use Rattle.split_types.proofs.CameLaws.{came}
 use Rattle.split_types.proofs.KnownLaws.{known}
-use Rattle.split_types.proofs.PutLaws.{live_of}
+use Rattle.split_types.proofs.FileLaws.{live_of}
+use Rattle.split_types.proofs.PutLaws.{bound_of}
 use Rattle.split_types.proofs.WorkLaws.{pieces}
 use Rattle.split_types.proofs.StandingLaws.{standing, left_by, stands_enter, stands_admit, stands_put, stands_get}
 use Rattle.split_types.proofs.StandingLaws.{stands_ret, not_own}
@@ -55,10 +57,11 @@ pub record AsksAt (added all back : ℕ) (asked entered admitted : Bool) : Type 
 abbrev pub Asks : List Event → ℕ → Type 0
 Asks h p = AsksAt (loads h p) (pieces h p) (returned h p) (has_asked h p) (is_entered h p) (is_admitted h p)
 
--- where a process has asked for a page, that of its first piece that is left is kept for it
+-- where a process has asked for a page, that of its first piece that is left, in the file that its call is bound to, is
+-- kept for it, even where that file is dropped meanwhile; it is held as long as the file is there
 abbrev pub KeepsAsked : Workload → List Event → ℕ → Type 0
 KeepsAsked w h p =
-    has_asked h p ≡ true → (s : Serial) (piece : Piece) → working_file w h p ≡ Some s → piece_left w h p ≡ Some piece
+    has_asked h p ≡ true → (s : Serial) (piece : Piece) → bound_file w h p ≡ Some s → piece_left w h p ≡ Some piece
     → IsKept h p (Page s piece.page)
 
 -- a process that adds a read hasn't asked for one: the page that it would have asked for is held
@@ -70,7 +73,7 @@ asks_once w h q c s piece here absent keeps = elim (cases_Bool (has_asked h q.0)
   | inl asked ↦
       absurd (both_ways (is_held w h (Page s piece.page)) absent
       (kept_held w h q.0 (Page s piece.page) (live_of w h (bound_file w h q.0) s here.working.file)
-      (keeps asked s piece here.working.file here.left)))
+      (keeps asked s piece (bound_of w h (bound_file w h q.0) s here.working.file) here.left)))
 ]
 
 -- a call that is entered or admitted besides
@@ -123,13 +126,12 @@ asks_more m u r a en ad true out is let' k = record {
 -- ---- the piece that a process is at
 -- what is kept for a process stays so through an event that leaves its piece
 keeps_if : (w : Workload) (h : List Event) (e : Event) (p : ℕ) → Known w h → Numbers h → Came w h e
-    → (has_asked (h ▹ e) p ≡ true → has_asked h p ≡ true) → (has_asked (h ▹ e) p ≡ true → standing w (h ▹ e) p ≡ standing w h p)
-    → KeepsAsked w h p → KeepsAsked w (h ▹ e) p
+    → (has_asked (h ▹ e) p ≡ true → has_asked h p ≡ true)
+    → (has_asked (h ▹ e) p ≡ true → standing w (h ▹ e) p ≡ standing w h p) → KeepsAsked w h p → KeepsAsked w (h ▹ e) p
 keeps_if w h e p f n row before stays keeps asked s piece file left =
     let same = stays asked
-    in let old : working_file w h p ≡ Some s = sym (ap (λ x. x.file) same) ∙ file
-    in kept_next w h e p (Page s piece.page) f n row (live_of w h (bound_file w h p) s old) asked
-    (keeps (before asked) s piece old (sym (ap left_by same) ∙ left))
+    in kept_next w h e p (Page s piece.page) f n row asked
+    (keeps (before asked) s piece (sym (ap (λ x. x.file) same) ∙ file) (sym (ap left_by same) ∙ left))
 
 -- a read that is added
 keeps_load : (w : Workload) (h : List Event) (q : Pid) (c : Call) (s : Serial) (piece : Piece) (block p : ℕ) → Known w h
@@ -158,12 +160,13 @@ keeps_load w h q c s piece block p f n row here keeps = elim (cases_Bool (q.0 ==
     fresh : IsKept (h ▹ Add (Client q) r) q.0 (Page s piece.page)
     fresh = kept_new h q s piece.page block idle
 
-    own : (t : Serial) (next : Piece) → q.0 ≡ p → working_file w (h ▹ Add (Client q) r) p ≡ Some t
+    own : (t : Serial) (next : Piece) → q.0 ≡ p → bound_file w (h ▹ Add (Client q) r) p ≡ Some t
         → piece_left w h p ≡ Some next
         → IsKept (h ▹ Add (Client q) r) p (Page t next.page)
     own t next is file left =
         let same_file : s ≡ t =
-        same_Some s t (sym (subst (λ x. working_file w h x ≡ Some s) is here.working.file)
+        same_Some s t (sym (subst (λ x. bound_file w h x ≡ Some s) is
+        (bound_of w h (bound_file w h q.0) s here.working.file))
         ∙ file)
         in let same_piece : piece ≡ next =
         same_Some piece next (sym (subst (λ x. piece_left w h x ≡ Some piece) is here.left) ∙ left)
@@ -197,8 +200,25 @@ keeps_next w h e p f n (came_enter q c has out) k =
 keeps_next w h e p f n (came_admit q c has in' out may) k =
     keeps_if w h e p f n (came_admit q c has in' out may) (λ asked. asked)
     (λ asked. stands_admit w h q p (not_own p q (is_admitted h) (k.asks.let_in asked) out)) k.keeps
+keeps_next w h e p f n (came_make q name slot admitted idle unused at) k =
+    keeps_if w h e p f n (came_make q name slot admitted idle unused at) (λ asked. asked)
+    (λ asked. refl) k.keeps
+keeps_next w h e p f n (came_drop q name serial working idle) k =
+    keeps_if w h e p f n (came_drop q name serial working idle) (λ asked. asked)
+    (λ asked. refl) k.keeps
 keeps_next w h e p f n (came_no_file q c admitted none) k =
     keeps_ret w h q reply.NoFile p f n (came_no_file q c admitted none) k.keeps
+keeps_next w h e p f n (came_changed q c admitted names acted) k =
+    keeps_ret w h q reply.Done p f n (came_changed q c admitted names acted) k.keeps
+keeps_next w h e p f n (came_exists q name admitted idle taken) k =
+    keeps_ret w h q reply.Exists p f n (came_exists q name admitted idle taken) k.keeps
+keeps_next w h e p f n (came_no_slot q name admitted idle unused none) k =
+    keeps_ret w h q reply.NoSlot p f n (came_no_slot q name admitted idle unused none) k.keeps
+keeps_next w h e p f n (came_too_big q name off len fill s working big) k =
+    keeps_ret w h q reply.TooBig p f n (came_too_big q name off len fill s working big) k.keeps
+keeps_next w h e p f n (came_no_space q name off len fill s piece here out none) k =
+    keeps_ret w h q (reply.NoSpace (moved h q.0)) p f n (came_no_space q name off len fill s piece here out none)
+    k.keeps
 keeps_next w h e p f n (came_wrote q name off len fill s working none) k =
     keeps_ret w h q reply.Done p f n (came_wrote q name off len fill s working none) k.keeps
 keeps_next w h e p f n (came_read q name off len s working none) k =
@@ -221,11 +241,20 @@ keeps_next w h e p f n (came_evict q c s piece here absent t g found) k =
     (λ asked. refl) k.keeps
 keeps_next w h e p f n (came_load q c s piece here absent block at) k =
     keeps_load w h q c s piece block p f n (came_load q c s piece here absent block at) here k.keeps
-keeps_next w h e p f n (came_serve s g idle found) k =
-    keeps_if w h e p f n (came_serve s g idle found) (λ asked. asked)
+keeps_next w h e p f n (came_serve run idle found) k =
+    keeps_if w h e p f n (came_serve run idle found) (λ asked. asked)
     (λ asked. refl) k.keeps
-keeps_next w h e p f n (came_add run at) k =
-    keeps_if w h e p f n (came_add run at) (λ asked. asked)
+keeps_next w h e p f n (came_skip run at gone) k =
+    keeps_if w h e p f n (came_skip run at gone) (λ asked. asked)
+    (λ asked. refl) k.keeps
+keeps_next w h e p f n (came_map run free serves there none at) k =
+    keeps_if w h e p f n (came_map run free serves there none at) (λ asked. asked)
+    (λ asked. refl) k.keeps
+keeps_next w h e p f n (came_grow run block serves there at short) k =
+    keeps_if w h e p f n (came_grow run block serves there at short) (λ asked. asked)
+    (λ asked. refl) k.keeps
+keeps_next w h e p f n (came_add run block at there placed long) k =
+    keeps_if w h e p f n (came_add run block at there placed long) (λ asked. asked)
     (λ asked. refl) k.keeps
 keeps_next w h e p f n (came_send r free picked) k =
     keeps_if w h e p f n (came_send r free picked) (λ asked. asked)
@@ -252,7 +281,15 @@ asks_next w h e p (came_enter q c has out) k =
 asks_next w h e p (came_admit q c has in' out may) k =
     asks_wider (loads h p) (pieces h p) (returned h p) (has_asked h p) (is_entered h p) (is_admitted h p)
     (is_entered h p) (q.0 == p || is_admitted h p) (λ i. i) (λ i. or_right (q.0 == p) (is_admitted h p) i) k.asks
+asks_next w h e p (came_make q name slot admitted idle unused at) k = k.asks
+asks_next w h e p (came_drop q name serial working idle) k = k.asks
 asks_next w h e p (came_no_file q c admitted none) k = asks_ret h q reply.NoFile p k.asks
+asks_next w h e p (came_changed q c admitted names acted) k = asks_ret h q reply.Done p k.asks
+asks_next w h e p (came_exists q name admitted idle taken) k = asks_ret h q reply.Exists p k.asks
+asks_next w h e p (came_no_slot q name admitted idle unused none) k = asks_ret h q reply.NoSlot p k.asks
+asks_next w h e p (came_too_big q name off len fill s working big) k = asks_ret h q reply.TooBig p k.asks
+asks_next w h e p (came_no_space q name off len fill s piece here out none) k =
+    asks_ret h q (reply.NoSpace (moved h q.0)) p k.asks
 asks_next w h e p (came_wrote q name off len fill s working none) k = asks_ret h q reply.Done p k.asks
 asks_next w h e p (came_read q name off len s working none) k =
     asks_ret h q (reply.Count (moved h q.0) (got h q.0)) p k.asks
@@ -268,8 +305,11 @@ asks_next w h e p (came_load q c s piece here absent block at) k =
     (asks_once w h q c s piece here absent.absent) k.keeps)
     (λ same. subst (λ x. is_entered h x ≡ true) (eqb-true q.0 p same) admitted.entered)
     (λ same. subst (λ x. is_admitted h x ≡ true) (eqb-true q.0 p same) admitted.admitted) k.asks
-asks_next w h e p (came_serve s g idle found) k = k.asks
-asks_next w h e p (came_add run at) k = k.asks
+asks_next w h e p (came_serve run idle found) k = k.asks
+asks_next w h e p (came_skip run at gone) k = k.asks
+asks_next w h e p (came_map run free serves there none at) k = k.asks
+asks_next w h e p (came_grow run block serves there at short) k = k.asks
+asks_next w h e p (came_add run block at there placed long) k = k.asks
 asks_next w h e p (came_send r free picked) k = k.asks
 asks_next w h e p (came_done j r at) k = k.asks
 

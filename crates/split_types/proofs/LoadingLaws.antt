@@ -1,6 +1,6 @@
 -- A page that is loading is neither dirty nor busy: what is dirty or busy stays in the cache, and what is there isn't
 -- read.
-use Rattle.std.proofs.Common.{◌≡◌, ℕ, ◌+◌, ◌-◌, ◌<◌, List, [], ◌∷◌, length, Bool, true, false, not, ◌&&◌, ◌||◌, refl, arith, subst, sym, inl, inr, ap, ◌∙◌}
+use Rattle.std.proofs.Common.{◌≡◌, ℕ, ◌+◌, ◌-◌, ◌<◌, List, [], ◌∷◌, Bool, true, false, not, ◌&&◌, ◌||◌, refl, arith, subst, sym, inl, inr, ap, ◌∙◌}
 use Rattle.std.specs.List.{list_any}
 use Rattle.std.proofs.lemmas.Bool.{both_ways, and_parts, and_from, and_right, or_cases, or_parts, or_from, or_left, or_right, not_from_false, false_from_ne_true}
 use Rattle.std.proofs.lemmas.List.Folds.{list_any-append}
@@ -17,8 +17,8 @@ use Rattle.split_types.specs.declared.event.Event.TheVariants.{Put, Add, Done, E
 use Rattle.split_types.specs.History.{◌▹◌}
 use Rattle.split_types.specs.Hooks.{maker, same_buf, is_among, covers}
 use Rattle.split_types.specs.Requests.{is_numbered, unfinished}
-use Rattle.split_types.specs.Files.{is_live}
-use Rattle.split_types.specs.Pages.{is_put_since, is_dirty, is_busy, is_ready}
+use Rattle.split_types.specs.Files.{is_live, bound_file}
+use Rattle.split_types.specs.Pages.{is_live_page, is_put_since, is_dirty, is_busy, is_ready}
 use Rattle.split_types.specs.Reads.{reads, outstanding, is_read_of, is_loading}
 use Rattle.split_types.specs.HeldPages.{is_placed, is_held, is_unsettled}
 use Rattle.split_types.specs.Victims.{is_pinned}
@@ -26,48 +26,52 @@ use Rattle.split_types.specs.Accepted.{IsAccepted}
 use Rattle.split_types.specs.Legal.{IsLegal}
 use Rattle.split_types.specs.Proving.Came.{Came}
 use Rattle.split_types.specs.Proving.Came.Came.{came_put, came_evict, came_load, came_add}
-use Rattle.split_types.specs.Proving.Runs.{ServesReady, readiness}
-use Rattle.split_types.specs.Proving.Known.{Known}
 use Rattle.split_types.proofs.CameLaws.{came}
-use Rattle.split_types.proofs.KnownLaws.{known}
+use Rattle.split_types.proofs.KnownLaws.{maps_known}
+use Rattle.split_types.proofs.FileLaws.{live_of}
 use Rattle.split_types.proofs.ReadyLaws.{ReadyParts, ready_parts}
 use Rattle.split_types.proofs.Lists.{none_in_filter}
 use Rattle.split_types.proofs.KeptLists.{any_filter, any_push}
 use Rattle.split_types.proofs.HeldLaws.{same_buf-is}
 use Rattle.split_types.proofs.VictimLaws.{victims_are_oldest}
-use Rattle.split_types.proofs.CacheLaws.{preset_live}
 use Rattle.split_types.proofs.CoverLaws.{among_parts}
 
 -- ---- requests for pages
 -- a page of a run that is ready is ready
-run_ready : (w : Workload) (h : List Event) (run : Run) (s : Serial) (g : ℕ) → ServesReady w (readiness w h) run
+run_ready : (w : Workload) (h : List Event) (run : Run) (s : Serial) (g : ℕ)
+    → ((k : ℕ) → k < run.n → is_ready w h (Page run.serial (run.page + k)) ≡ true)
     → is_among run.serial run.page run.n (Page s g) ≡ true → ReadyParts w h s g
-run_ready w h run s g serves is =
+run_ready w h run s g all_ready is =
     let parts = among_parts run.serial s run.page run.n g is
     in let offset : run.page + (g - run.page) ≡ g = omega (arith, parts)
     in ready_parts w h s g
     (subst (λ k. is_ready w h (Page s k) ≡ true) offset
     (subst (λ t. is_ready w h (Page t (run.page + (g - run.page))) ≡ true) (ap (λ n. record { 0 = n }) parts.0)
-    (serves.all_ready (g - run.page) (omega (arith, parts)))))
+    (all_ready (g - run.page) (omega (arith, parts)))))
 
 -- a request that is added takes no page but one that was put and isn't busy
-pub taken_ready : (w : Workload) (h : List Event) (by : Actor) (r : Request) (s : Serial) (g : ℕ) → Known w h
-    → Came w h (Add by r) → covers r (Page s g) ≡ true → ReadyParts w h s g
-taken_ready w h by r s g f (came_load p c t piece here absent block at) is = absurd (cc)
-taken_ready w h by r s g f (came_add run at) is = run_ready w h run s g (f.serves run at) is
+pub taken_ready : (w : Workload) (h : List Event) (by : Actor) (r : Request) (s : Serial) (g : ℕ) → IsAccepted w
+    → IsLegal w h → Came w h (Add by r) → covers r (Page s g) ≡ true → ReadyParts w h s g
+taken_ready w h by r s g accepted legal (came_load p c t piece here absent block at) is = absurd (cc)
+taken_ready w h by r s g accepted legal (came_add run block at there placed long) is =
+    run_ready w h run s g ((maps_known.served w h run accepted legal at).ready there) is
 
 -- ---- what is dirty or busy is in the cache
--- what is evicted is neither dirty nor busy
+-- what is evicted is a page of a file that is there, and neither dirty nor busy
 evicted_settled : (w : Workload) (h : List Event) (by : Pid) (s : Serial) (g : ℕ) → Came w h (Evict by s g)
-    → is_unsettled w h (Page s g) ≡ false
+    → (is_live w h s.0 ≡ true) × (is_unsettled w h (Page s g) ≡ false)
 evicted_settled w h by s g (came_evict p c t piece here absent u k found) =
-    only (is_held w h (Page s g)) (is_unsettled w h (Page s g)) (is_loading w h (Page s g)) (is_pinned w h (Page s g))
+    only (is_live w h s.0) (list_any (λ r. reads r (Page s g)) (outstanding h)) (is_placed h (Page s g))
+    (is_unsettled w h (Page s g)) (is_loading w h (Page s g)) (is_pinned w h (Page s g))
     (victims_are_oldest.some w h (Page s g) found).evictable
   where
-    only : (held u l p : Bool) → (held && not (u || l || p)) ≡ true → u ≡ false
-    only true true l p may = absurd (cc)
-    only true false l p may = refl
-    only false u l p may = absurd (cc)
+    only : (live read placed u l p : Bool)
+        → (((live && read) || (live && placed)) && not (u || l || p)) ≡ true → (live ≡ true) × (u ≡ false)
+    only false read placed u l p may = absurd (cc)
+    only true true placed true l p may = absurd (cc)
+    only true false true true l p may = absurd (cc)
+    only true false false u l p may = absurd (cc)
+    only true read placed false l p may = (refl, refl)
 
 pub put_settled : (w : Workload) (h : List Event) (s : Serial) (g : ℕ) → is_live w h s.0 ≡ true
     → is_unsettled w h (Page s g) ≡ false → is_put_since h (Page s g) ≡ false
@@ -81,69 +85,71 @@ idle_settled w h s g live none =
     sym (ap (λ b. b && list_any (λ r. covers r (Page s g)) (unfinished h)) live)
     ∙ (or_parts (is_dirty w h (Page s g)) (is_busy w h (Page s g)) none).1
 
--- a page that is evicted isn't this one, which was put or is busy
-not_evicted : (w : Workload) (h : List Event) (by : Pid) (t : Serial) (k : ℕ) (s : Serial) (g : ℕ)
-    → Came w h (Evict by t k) → (is_unsettled w h (Page s g) ≡ false → ⊥) → same_buf (Page s g) (Page t k) ≡ false
-not_evicted w h by t k s g row some =
-    false_from_ne_true (same_buf (Page s g) (Page t k))
-    (λ same. some (subst (λ b. is_unsettled w h b ≡ false) (sym (same_buf-is (Page s g) (Page t k) same))
-    (evicted_settled w h by t k row)))
-
-put_placed : (w : Workload) (h : List Event) (s : Serial) (g : ℕ) → IsAccepted w → IsLegal w h
-    → s.0 < length w.files → is_put_since h (Page s g) ≡ true → is_placed h (Page s g) ≡ true
-put_placed w [] s g accepted legal file is = absurd (cc)
-put_placed w (h ▹ Put by t k from to fill) s g accepted legal file is =
-    elim (or_cases (same_buf (Page s g) (Page t k)) (is_put_since h (Page s g)) is) [
-      | inl here ↦ or_left (same_buf (Page s g) (Page t k)) (is_placed h (Page s g)) here
-      | inr old ↦
-          or_right (same_buf (Page s g) (Page t k)) (is_placed h (Page s g))
-          (put_placed w h s g accepted legal.1 file old)
-    ]
-put_placed w (h ▹ Add by r) s g accepted legal file is =
-    put_placed w h s g accepted legal.1 file (and_parts (not (covers r (Page s g))) (is_put_since h (Page s g)) is).1
-put_placed w (h ▹ Done k id true) s g accepted legal file is =
-    or_right (is_read_of h id (Page s g)) (is_placed h (Page s g)) (put_placed w h s g accepted legal.1 file is)
-put_placed w (h ▹ Evict by t k) s g accepted legal file is =
-    let live = preset_live w h s (known w h accepted legal.1) file
-    in and_from (not (same_buf (Page s g) (Page t k))) (is_placed h (Page s g))
-    (not_from_false (same_buf (Page s g) (Page t k))
-    (not_evicted w h by t k s g (came w h (maker (Evict by t k)) (Evict by t k) legal.0)
-    (λ none. both_ways (is_put_since h (Page s g)) (put_settled w h s g live none) is)))
-    (put_placed w h s g accepted legal.1 file is)
-put_placed w (h ▹ e) s g accepted legal file is = put_placed w h s g accepted legal.1 file is
-
-busy_placed : (w : Workload) (h : List Event) (s : Serial) (g : ℕ) → IsAccepted w → IsLegal w h
-    → s.0 < length w.files → list_any (λ r. covers r (Page s g)) (unfinished h) ≡ true
-    → is_placed h (Page s g) ≡ true
-busy_placed w [] s g accepted legal file is = absurd (cc)
-busy_placed w (h ▹ Put by t k from to fill) s g accepted legal file is =
-    or_right (same_buf (Page s g) (Page t k)) (is_placed h (Page s g)) (busy_placed w h s g accepted legal.1 file is)
-busy_placed w (h ▹ Add by r) s g accepted legal file is =
-    elim (any_push (λ q. covers q (Page s g)) (unfinished h) r is) [
-      | inl old ↦ busy_placed w h s g accepted legal.1 file old
-      | inr new ↦
-          (let row = came w h (maker (Add by r)) (Add by r) legal.0
-          in put_placed w h s g accepted legal.1 file
-          (taken_ready w h by r s g (known w h accepted legal.1) row new).put)
-    ]
-busy_placed w (h ▹ Done k id true) s g accepted legal file is =
-    or_right (is_read_of h id (Page s g)) (is_placed h (Page s g))
-    (busy_placed w h s g accepted legal.1 file
-    (any_filter (λ r. covers r (Page s g)) (λ r. not (is_numbered id r)) (unfinished h) is))
-busy_placed w (h ▹ Evict by t k) s g accepted legal file is =
-    let live = preset_live w h s (known w h accepted legal.1) file
-    in and_from (not (same_buf (Page s g) (Page t k))) (is_placed h (Page s g))
-    (not_from_false (same_buf (Page s g) (Page t k))
-    (not_evicted w h by t k s g (came w h (maker (Evict by t k)) (Evict by t k) legal.0)
-    (λ none. both_ways (list_any (λ r. covers r (Page s g)) (unfinished h)) (idle_settled w h s g live none) is)))
-    (busy_placed w h s g accepted legal.1 file is)
-busy_placed w (h ▹ e) s g accepted legal file is = busy_placed w h s g accepted legal.1 file is
-
--- ---- what is read is neither
 -- the page was not put since a request last took it, and none that isn't done well writes it
 abbrev pub IsRested : List Event → Buf → Type 0
 IsRested h b = (is_put_since h b ≡ false) × (list_any (λ r. covers r b) (unfinished h) ≡ false)
 
+evicted_rested : (w : Workload) (h : List Event) (by : Pid) (s : Serial) (g : ℕ) → Came w h (Evict by s g)
+    → IsRested h (Page s g)
+evicted_rested w h by s g row =
+    let is = evicted_settled w h by s g row
+    in (put_settled w h s g is.0 is.1, idle_settled w h s g is.0 is.1)
+
+-- a page that is evicted isn't this one, which was put or is busy
+not_evicted : (w : Workload) (h : List Event) (by : Pid) (t : Serial) (k : ℕ) (s : Serial) (g : ℕ)
+    → Came w h (Evict by t k) → (IsRested h (Page s g) → ⊥) → same_buf (Page s g) (Page t k) ≡ false
+not_evicted w h by t k s g row some =
+    false_from_ne_true (same_buf (Page s g) (Page t k))
+    (λ same. some (subst (IsRested h) (sym (same_buf-is (Page s g) (Page t k) same))
+    (evicted_rested w h by t k row)))
+
+put_placed : (w : Workload) (h : List Event) (s : Serial) (g : ℕ) → IsAccepted w → IsLegal w h
+    → is_put_since h (Page s g) ≡ true → is_placed h (Page s g) ≡ true
+put_placed w [] s g accepted legal is = absurd (cc)
+put_placed w (h ▹ Put by t k from to fill) s g accepted legal is =
+    elim (or_cases (same_buf (Page s g) (Page t k)) (is_put_since h (Page s g)) is) [
+      | inl here ↦ or_left (same_buf (Page s g) (Page t k)) (is_placed h (Page s g)) here
+      | inr old ↦
+          or_right (same_buf (Page s g) (Page t k)) (is_placed h (Page s g))
+          (put_placed w h s g accepted legal.1 old)
+    ]
+put_placed w (h ▹ Add by r) s g accepted legal is =
+    put_placed w h s g accepted legal.1 (and_parts (not (covers r (Page s g))) (is_put_since h (Page s g)) is).1
+put_placed w (h ▹ Done k id true) s g accepted legal is =
+    or_right (is_read_of h id (Page s g)) (is_placed h (Page s g)) (put_placed w h s g accepted legal.1 is)
+put_placed w (h ▹ Evict by t k) s g accepted legal is =
+    and_from (not (same_buf (Page s g) (Page t k))) (is_placed h (Page s g))
+    (not_from_false (same_buf (Page s g) (Page t k))
+    (not_evicted w h by t k s g (came w h (maker (Evict by t k)) (Evict by t k) legal.0)
+    (λ rested. both_ways (is_put_since h (Page s g)) rested.0 is)))
+    (put_placed w h s g accepted legal.1 is)
+put_placed w (h ▹ e) s g accepted legal is = put_placed w h s g accepted legal.1 is
+
+busy_placed : (w : Workload) (h : List Event) (s : Serial) (g : ℕ) → IsAccepted w → IsLegal w h
+    → list_any (λ r. covers r (Page s g)) (unfinished h) ≡ true → is_placed h (Page s g) ≡ true
+busy_placed w [] s g accepted legal is = absurd (cc)
+busy_placed w (h ▹ Put by t k from to fill) s g accepted legal is =
+    or_right (same_buf (Page s g) (Page t k)) (is_placed h (Page s g)) (busy_placed w h s g accepted legal.1 is)
+busy_placed w (h ▹ Add by r) s g accepted legal is =
+    elim (any_push (λ q. covers q (Page s g)) (unfinished h) r is) [
+      | inl old ↦ busy_placed w h s g accepted legal.1 old
+      | inr new ↦
+          put_placed w h s g accepted legal.1
+          (taken_ready w h by r s g accepted legal.1 (came w h (maker (Add by r)) (Add by r) legal.0) new).put
+    ]
+busy_placed w (h ▹ Done k id true) s g accepted legal is =
+    or_right (is_read_of h id (Page s g)) (is_placed h (Page s g))
+    (busy_placed w h s g accepted legal.1
+    (any_filter (λ r. covers r (Page s g)) (λ r. not (is_numbered id r)) (unfinished h) is))
+busy_placed w (h ▹ Evict by t k) s g accepted legal is =
+    and_from (not (same_buf (Page s g) (Page t k))) (is_placed h (Page s g))
+    (not_from_false (same_buf (Page s g) (Page t k))
+    (not_evicted w h by t k s g (came w h (maker (Evict by t k)) (Evict by t k) legal.0)
+    (λ rested. both_ways (list_any (λ r. covers r (Page s g)) (unfinished h)) rested.1 is)))
+    (busy_placed w h s g accepted legal.1 is)
+busy_placed w (h ▹ e) s g accepted legal is = busy_placed w h s g accepted legal.1 is
+
+-- ---- what is read is neither
 -- a page that isn't held isn't placed
 pub absent_unplaced : (w : Workload) (h : List Event) (s : Serial) (g : ℕ) → is_live w h s.0 ≡ true
     → is_held w h (Page s g) ≡ false → is_placed h (Page s g) ≡ false
@@ -153,57 +159,66 @@ absent_unplaced w h s g live none =
 
 -- nor is it dirty or busy
 absent_rested : (w : Workload) (h : List Event) (s : Serial) (g : ℕ) → IsAccepted w → IsLegal w h
-    → s.0 < length w.files → is_held w h (Page s g) ≡ false → IsRested h (Page s g)
-absent_rested w h s g accepted legal file none =
-    let out = absent_unplaced w h s g (preset_live w h s (known w h accepted legal) file) none
+    → is_live w h s.0 ≡ true → is_held w h (Page s g) ≡ false → IsRested h (Page s g)
+absent_rested w h s g accepted legal live none =
+    let out = absent_unplaced w h s g live none
     in (
       false_from_ne_true (is_put_since h (Page s g))
-          (λ put. both_ways (is_placed h (Page s g)) out (put_placed w h s g accepted legal file put)),
+          (λ put. both_ways (is_placed h (Page s g)) out (put_placed w h s g accepted legal put)),
       false_from_ne_true (list_any (λ r. covers r (Page s g)) (unfinished h))
-          (λ busy. both_ways (is_placed h (Page s g)) out (busy_placed w h s g accepted legal file busy)),
+          (λ busy. both_ways (is_placed h (Page s g)) out (busy_placed w h s g accepted legal busy)),
     )
 
 -- what is put isn't loading
 pub put_not_read : (w : Workload) (h : List Event) (by : Pid) (t : Serial) (k from to fill : ℕ) (s : Serial) (g : ℕ)
-    → Came w h (Put by t k from to fill) → is_live w h s.0 ≡ true
-    → list_any (λ r. reads r (Page s g)) (outstanding h) ≡ true → same_buf (Page s g) (Page t k) ≡ false
-put_not_read w h by t k from to fill s g (came_put p name off len byte u piece here may) live is =
+    → Came w h (Put by t k from to fill) → list_any (λ r. reads r (Page s g)) (outstanding h) ≡ true
+    → same_buf (Page s g) (Page t k) ≡ false
+put_not_read w h by t k from to fill s g (came_put p name off len byte u piece here may) is =
     false_from_ne_true (same_buf (Page s g) (Page t k))
     (λ same. both_ways (is_loading w h (Page t k)) here.there
-    (subst (λ b. is_loading w h b ≡ true) (same_buf-is (Page s g) (Page t k) same)
-    (and_from (is_live w h s.0) (list_any (λ r. reads r (Page s g)) (outstanding h)) live is)))
+    (and_from (is_live w h t.0) (list_any (λ r. reads r (Page t k)) (outstanding h))
+    (live_of w h (bound_file w h p.0) t here.working.file)
+    (subst (λ b. list_any (λ r. reads r b) (outstanding h) ≡ true) (same_buf-is (Page s g) (Page t k) same) is)))
 
--- a read is added for a page that isn't held
+-- a read is added for a page of a file that is there, which isn't held
+pub record IsAbsentRead (w : Workload) (h : List Event) (r : Request) (s : Serial) (g : ℕ) : Type 0 where
+  pub live : is_live w h s.0 ≡ true
+  pub absent : is_held w h (Page s g) ≡ false
+  pub none : covers r (Page s g) ≡ false
+
 pub read_absent : (w : Workload) (h : List Event) (by : Actor) (r : Request) (s : Serial) (g : ℕ) → Came w h (Add by r)
-    → reads r (Page s g) ≡ true → (is_held w h (Page s g) ≡ false) × (covers r (Page s g) ≡ false)
-read_absent w h by r s g (came_load p c t piece here absent block at) is = (
-  subst (λ b. is_held w h b ≡ false) (sym (same_buf-is (Page s g) (Page t piece.page) is)) absent.absent,
-  refl,
-)
-read_absent w h by r s g (came_add run at) is = absurd (cc)
+    → reads r (Page s g) ≡ true → IsAbsentRead w h r s g
+read_absent w h by r s g (came_load p c t piece here absent block at) is =
+    let same = sym (same_buf-is (Page s g) (Page t piece.page) is)
+    in record {
+      live =
+          subst (λ b. is_live_page w h b ≡ true) same (live_of w h (bound_file w h p.0) t here.working.file);
+      absent = subst (λ b. is_held w h b ≡ false) same absent.absent;
+      none = refl;
+    }
+read_absent w h by r s g (came_add run block at there placed long) is = absurd (cc)
 
 pub loading_rested : (w : Workload) (h : List Event) (s : Serial) (g : ℕ) → IsAccepted w → IsLegal w h
-    → s.0 < length w.files → list_any (λ r. reads r (Page s g)) (outstanding h) ≡ true → IsRested h (Page s g)
-loading_rested w [] s g accepted legal file is = absurd (cc)
-loading_rested w (h ▹ Put by t k from to fill) s g accepted legal file is =
-    let old = loading_rested w h s g accepted legal.1 file is
+    → list_any (λ r. reads r (Page s g)) (outstanding h) ≡ true → IsRested h (Page s g)
+loading_rested w [] s g accepted legal is = absurd (cc)
+loading_rested w (h ▹ Put by t k from to fill) s g accepted legal is =
+    let old = loading_rested w h s g accepted legal.1 is
     in let row = came w h (maker (Put by t k from to fill)) (Put by t k from to fill) legal.0
-    in let live = preset_live w h s (known w h accepted legal.1) file
     in (
       or_from (same_buf (Page s g) (Page t k)) (is_put_since h (Page s g))
-          (put_not_read w h by t k from to fill s g row live is) old.0,
+          (put_not_read w h by t k from to fill s g row is) old.0,
       old.1,
     )
-loading_rested w (h ▹ Add by r) s g accepted legal file is =
+loading_rested w (h ▹ Add by r) s g accepted legal is =
     elim (any_push (λ q. reads q (Page s g)) (outstanding h) r is) [
       | inl was ↦
-          (let old = loading_rested w h s g accepted legal.1 file was
+          (let old = loading_rested w h s g accepted legal.1 was
           in added old (false_from_ne_true (covers r (Page s g))
           (λ taken. both_ways (is_put_since h (Page s g)) old.0
-          (taken_ready w h by r s g (known w h accepted legal.1) row taken).put)))
+          (taken_ready w h by r s g accepted legal.1 row taken).put)))
       | inr new ↦
-          (let absent = read_absent w h by r s g row new
-          in added (absent_rested w h s g accepted legal.1 file absent.0) absent.1)
+          (let read = read_absent w h by r s g row new
+          in added (absent_rested w h s g accepted legal.1 read.live read.absent) read.none)
     ]
   where
     row : Came w h (Add by r)
@@ -216,25 +231,25 @@ loading_rested w (h ▹ Add by r) s g accepted legal file is =
           ∙ or_from (list_any (λ q. covers q (Page s g)) (unfinished h)) (covers r (Page s g) || false) old.1
           (or_from (covers r (Page s g)) false none refl),
     )
-loading_rested w (h ▹ Done k id true) s g accepted legal file is =
+loading_rested w (h ▹ Done k id true) s g accepted legal is =
     let old =
-    loading_rested w h s g accepted legal.1 file
+    loading_rested w h s g accepted legal.1
     (any_filter (λ r. reads r (Page s g)) (λ r. not (is_numbered id r)) (outstanding h) is)
     in (
       old.0,
       none_in_filter (λ r. covers r (Page s g)) (λ r. not (is_numbered id r)) (unfinished h) old.1,
     )
-loading_rested w (h ▹ Done k id false) s g accepted legal file is =
-    loading_rested w h s g accepted legal.1 file
+loading_rested w (h ▹ Done k id false) s g accepted legal is =
+    loading_rested w h s g accepted legal.1
     (any_filter (λ r. reads r (Page s g)) (λ r. not (is_numbered id r)) (outstanding h) is)
-loading_rested w (h ▹ e) s g accepted legal file is = loading_rested w h s g accepted legal.1 file is
+loading_rested w (h ▹ e) s g accepted legal is = loading_rested w h s g accepted legal.1 is
 
 -- a page that is loading is neither dirty nor busy
 pub loading_settled : (w : Workload) (h : List Event) (s : Serial) (g : ℕ) → IsAccepted w → IsLegal w h
-    → s.0 < length w.files → is_loading w h (Page s g) ≡ true → is_unsettled w h (Page s g) ≡ false
-loading_settled w h s g accepted legal file is =
+    → is_loading w h (Page s g) ≡ true → is_unsettled w h (Page s g) ≡ false
+loading_settled w h s g accepted legal is =
     let rested =
-    loading_rested w h s g accepted legal file
+    loading_rested w h s g accepted legal
     (and_parts (is_live w h s.0) (list_any (λ r. reads r (Page s g)) (outstanding h)) is).1
     in or_from (is_dirty w h (Page s g)) (is_busy w h (Page s g))
     (and_right (is_live w h s.0) (is_put_since h (Page s g)) rested.0)

@@ -1,5 +1,5 @@
 -- Requests by their numbers, and those that are outstanding.
-use Rattle.std.proofs.Common.{◌≡◌, ℕ, ◌≤◌, List, [], ◌∷◌, ◌++◌, length, slice_get, filter, Bool, true, false, not, Option, Some, None, refl, arith, inl, inr, ◌∙◌, ap, count_by, nat_lt}
+use Rattle.std.proofs.Common.{◌≡◌, ℕ, ◌≤◌, List, [], ◌∷◌, ◌++◌, length, slice_get, filter, true, false, not, Some, refl, arith, inl, inr, ◌∙◌, ap, count_by, nat_lt}
 use Rattle.std.specs.List.{list_any}
 use Rattle.std.proofs.lemmas.Bool.{cases_Bool, both_ways, eq-eqb, ne_eqb, lt-ltb}
 use Rattle.std.proofs.lemmas.Option.{slice_get_within}
@@ -18,6 +18,7 @@ use Rattle.split_types.specs.Accepted.{IsAccepted}
 use Rattle.split_types.specs.Legal.{IsLegal}
 use Rattle.split_types.specs.Proving.Came.{Came}
 use Rattle.split_types.specs.Proving.Known.{Known}
+use Rattle.split_types.proofs.HeldLaws.{reads_some}
 use Rattle.split_types.proofs.CameLaws.{came}
 use Rattle.split_types.proofs.KnownLaws.{known}
 use Rattle.split_types.proofs.Lists.{slice_get-push, slice_get-push_new, find_some, list_any_here, counted_here, any_counted}
@@ -70,8 +71,8 @@ numbers w h accepted legal =
     record { left_is = all_done_well w h legal; at_number = all_at_numbers w h accepted legal }
 
 -- a request in flight stands among those that weren't done well
-pub flying_there : (w : Workload) (h : List Event) (k : ℕ) (r : Request) → Known w h → slice_get (in_flight h) k ≡ Some r
-    → (j : ℕ) × (slice_get (unfinished h) j ≡ Some r)
+pub flying_there : (w : Workload) (h : List Event) (k : ℕ) (r : Request) → Known w h
+    → slice_get (in_flight h) k ≡ Some r → (j : ℕ) × (slice_get (unfinished h) j ≡ Some r)
 flying_there w h k r f at =
     let a = f.waiting
     in let flying = counted_here (is_numbered r.id) (in_flight h) k r at (number_here r)
@@ -86,10 +87,6 @@ flying_there w h k r f at =
     below : 1 ≤ count_by (is_numbered r.id) (unfinished h)
         → nat_lt 0 (count_by (is_numbered r.id) (unfinished h)) ≡ true
     below some = lt-ltb 0 (count_by (is_numbered r.id) (unfinished h)) (omega (arith, some))
-
--- the request, if there is one, reads the page
-abbrev pub reads_some : Option Request → Buf → Bool
-reads_some o b = elim o [ None ↦ false | Some r ↦ reads r b ]
 
 -- where no outstanding request reads a page, none in flight does
 pub idle_flight : (w : Workload) (h : List Event) (k : ℕ) (r : Request) (b : Buf) → Known w h → Numbers h

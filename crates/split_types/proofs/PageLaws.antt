@@ -1,19 +1,15 @@
 -- Each page of the preset files stands once among all pages, at its own place.
-use Rattle.std.proofs.Common.{◌≡◌, ℕ, zero, suc, ◌+◌, ◌-◌, ◌<◌, ◌≤◌, List, [], ◌∷◌, length, slice_get, take, sum_by, Some, refl, arith, sym, inl, inr, ◌∙◌, ap, unwrap_or, option_map}
-use Rattle.std.proofs.lemmas.Bool.{cases_lt}
-use Rattle.std.proofs.lemmas.List.{length-append}
+use Rattle.std.proofs.Common.{◌≡◌, ℕ, zero, suc, ◌+◌, ◌<◌, ◌≤◌, List, [], ◌∷◌, length, slice_get, take, sum_by, Some, refl, arith, sym, inl, inr, ◌∙◌, ap, unwrap_or, option_map}
 use Rattle.std.proofs.lemmas.List.FromFn.{length-map-range_with_len}
 use Rattle.std.proofs.lemmas.List.Sums.{sum_by-cons, sum_by_more_le}
 use Rattle.std.proofs.lemmas.Option.{slice_get_cases}
 use Rattle.split_types.proofs.Lists.{slice_get-append_left, slice_get-append_right}
 use Rattle.split_types.specs.declared.ids.Serial.{Serial}
-use Rattle.split_types.specs.declared.buf.Buf.{Buf}
 use Rattle.split_types.specs.declared.buf.Buf.TheVariants.{Page}
 use Rattle.split_types.specs.declared.workload.Preset.{Preset}
 use Rattle.split_types.specs.declared.workload.Workload.{Workload}
 use Rattle.split_types.specs.Parents.{pages_of}
 use Rattle.split_types.specs.Workloads.{pages_in, page_index, pages_from, all_pages, preset_pages}
-use Rattle.split_types.specs.Proving.Runs.{IsPageAt}
 
 -- ---- the pages of one file
 pub page_at : (s : Serial) (g n i : ℕ) → i < n → slice_get (pages_of s g n) i ≡ Some (Page s (g + i))
@@ -48,22 +44,8 @@ pages_at-suc : (f : Preset) (fs : List Preset) (s : ℕ) → pages_at (f ∷ fs)
 unfolding pages_at
 pages_at-suc f fs s = refl
 
-length-pages_from : (k : ℕ) (files : List Preset) → length (pages_from k files) ≡ pages_sum files
-length-pages_from k [] = sym pages_sum-nil
-length-pages_from k (f ∷ fs) =
-    omega (
-      arith,
-      length-append (pages_of (record { 0 = k }) 0 f.pages) (pages_from (k + 1) fs),
-      length-pages_of (record { 0 = k }) 0 f.pages,
-      length-pages_from (k + 1) fs,
-      pages_sum-cons f fs,
-    )
-
 same : (j k g h : ℕ) → j ≡ k → g ≡ h → Some (Page (record { 0 = j }) g) ≡ Some (Page (record { 0 = k }) h)
 same j k g h p q = cc
-
-some_is : (a b : Buf) → Some a ≡ Some b → a ≡ b
-some_is a b e = cc
 
 from_at : (k : ℕ) (files : List Preset) (s g i : ℕ) → s < length files → g < pages_at files s
     → i ≡ pages_sum (take s files) + g
@@ -81,56 +63,6 @@ from_at k (f ∷ fs) (suc s) g i file page index =
     ∙ from_at (k + 1) fs s g (pages_sum (take s fs) + g) (omega arith) (omega (arith, pages_at-suc f fs s)) refl
     ∙ same (k + 1 + s) (k + suc s) g g (omega arith) refl
 
--- what stands at a place
-record IsPageFrom (k : ℕ) (files : List Preset) (i : ℕ) (b : Buf) : Type 0 where
-  place : ℕ
-  page : ℕ
-  is : b ≡ Page (record { 0 = k + place }) page
-  file : place < length files
-  within : page < pages_at files place
-  index : i ≡ pages_sum (take place files) + page
-
-from_is : (k : ℕ) (files : List Preset) (i : ℕ) (b : Buf) → slice_get (pages_from k files) i ≡ Some b
-    → IsPageFrom k files i b
-from_is k [] i b at = absurd (cc)
-from_is k (f ∷ fs) i b at = elim (cases_lt i f.pages) [
-  | inl here ↦
-      let first : slice_get (pages_of (record { 0 = k }) 0 f.pages) i ≡ Some (Page (record { 0 = k }) (0 + i)) =
-      page_at (record { 0 = k }) 0 f.pages i here in
-      let left : slice_get (pages_from k (f ∷ fs)) i ≡ slice_get (pages_of (record { 0 = k }) 0 f.pages) i =
-      slice_get-append_left (pages_of (record { 0 = k }) 0 f.pages) (pages_from (k + 1) fs) i
-      (omega (arith, length-pages_of (record { 0 = k }) 0 f.pages))
-      in
-      record {
-        place = 0;
-        page = i;
-        is =
-            some_is b (Page (record { 0 = k + 0 }) i)
-            (sym at ∙ left ∙ first ∙ same k (k + 0) (0 + i) i (omega arith) (omega arith));
-        file = omega arith;
-        within = omega (arith, pages_at-zero f fs);
-        index = omega (arith, pages_sum-nil);
-      }
-  | inr later ↦
-      let right : slice_get (pages_from k (f ∷ fs)) i ≡ slice_get (pages_from (k + 1) fs) (i - f.pages) =
-      slice_get-append_right (pages_of (record { 0 = k }) 0 f.pages) (pages_from (k + 1) fs) i (i - f.pages)
-      (omega (arith, length-pages_of (record { 0 = k }) 0 f.pages))
-      in
-      let rest : IsPageFrom (k + 1) fs (i - f.pages) b = from_is (k + 1) fs (i - f.pages) b (sym right ∙ at) in
-      record {
-        place = suc rest.place;
-        page = rest.page;
-        is =
-            rest.is
-            ∙ some_is (Page (record { 0 = k + 1 + rest.place }) rest.page)
-            (Page (record { 0 = k + suc rest.place }) rest.page)
-            (same (k + 1 + rest.place) (k + suc rest.place) rest.page rest.page (omega arith) refl);
-        file = omega arith;
-        within = omega (arith, pages_at-suc f fs rest.place);
-        index = omega (arith, pages_sum-cons f (take rest.place fs));
-      }
-]
-
 -- ---- the pages of a workload
 -- the pages of the files before one, and its pages, are within all pages
 pub file_within : (w : Workload) (s : ℕ) → s < length w.files → page_index w s 0 + pages_in w s ≤ preset_pages w
@@ -144,35 +76,11 @@ pub page_index_within : (w : Workload) (s g : ℕ) → s < length w.files → g 
     → page_index w s g < preset_pages w
 page_index_within w s g file page = omega (arith, file_within w s file)
 
-pub length-all_pages : (w : Workload) → length (all_pages w) ≡ preset_pages w
-unfolding pages_sum
-length-all_pages w = length-pages_from 0 w.files
-
 pub page_stands : (w : Workload) (s : Serial) (g : ℕ) → s.0 < length w.files → g < pages_in w s.0
     → slice_get (all_pages w) (page_index w s.0 g) ≡ Some (Page s g)
 unfolding pages_sum pages_at
 page_stands w s g file page =
     from_at 0 w.files s.0 g (page_index w s.0 g) file page (omega arith) ∙ same (0 + s.0) s.0 g g (omega arith) refl
-
-pub page_is : (w : Workload) (i : ℕ) (b : Buf) → slice_get (all_pages w) i ≡ Some b → IsPageAt w i b
-unfolding pages_sum pages_at
-page_is w i b at =
-    let from : IsPageFrom 0 w.files i b = from_is 0 w.files i b at in
-    record {
-      serial = record { 0 = from.place };
-      page = from.page;
-      is =
-          from.is
-          ∙ some_is (Page (record { 0 = 0 + from.place }) from.page) (Page (record { 0 = from.place }) from.page)
-          (same (0 + from.place) from.place from.page from.page (omega arith) refl);
-      file = from.file;
-      within = from.within;
-      index = omega (arith, from.index);
-    }
-
--- pages of one file stand side by side
-pub page_index-add : (w : Workload) (s g k : ℕ) → page_index w s (g + k) ≡ page_index w s g + k
-page_index-add w s g k = omega arith
 
 -- two pages at one place are one
 pub page_index-apart : (w : Workload) (s : Serial) (g : ℕ) (t : Serial) (k : ℕ) → s.0 < length w.files

@@ -5,7 +5,10 @@ use Rattle.std.proofs.lemmas.Option.{same_Some}
 use Rattle.split_types.specs.declared.request.Request.{Request}
 use Rattle.split_types.specs.declared.workload.Workload.{Workload}
 use Rattle.split_types.specs.declared.event.Event.{Event}
+use Rattle.split_types.specs.History.{adds}
 use Rattle.split_types.specs.Requests.{is_write, queued}
+use Rattle.split_types.specs.FileMaps.{mapped_block}
+use Rattle.split_types.specs.FilesInOrder.{all_files}
 use Rattle.split_types.specs.Schedulers.{pick, earlier, is_eligible, has_stopped}
 use Rattle.split_types.specs.Accepted.{IsAccepted}
 use Rattle.split_types.specs.Proving.Runs.{MovesRun}
@@ -14,9 +17,9 @@ use Rattle.split_types.proofs.KnownLaws.{fifo_picks}
 use Rattle.split_types.proofs.Lists.{find_there}
 
 -- a request that moves a run waits for nothing
-eligible : (w : Workload) (h : List Event) (r : Request) → MovesRun w r → has_stopped h ≡ false
-    → is_eligible h r ≡ true
-eligible w h r run going = elim run.kind [
+eligible : (total : ℕ) (block_of : ℕ → ℕ → Option ℕ) (h : List Event) (r : Request) → MovesRun total block_of r
+    → has_stopped h ≡ false → is_eligible h r ≡ true
+eligible total block_of h r run going = elim run.kind [
   | inl writes ↦ rw (going, writes) refl
   | inr reads ↦ rw (going, reads.1) refl
 ]
@@ -55,22 +58,21 @@ before_writes h r rs high (Some q) rise found = by_test (is_eligible h q)
     by_test false = refl
 
 -- of requests with rising numbers, all of which may be sent, the first
-first_is : (w : Workload) (h : List Event) (rs : List Request) (high : ℕ) → RiseTo 0 rs high
-    → ((k : ℕ) (r : Request) → slice_get rs k ≡ Some r → MovesRun w r) → has_stopped h ≡ false
+first_is : (h : List Event) (rs : List Request) (high : ℕ) → RiseTo 0 rs high
+    → ((k : ℕ) (r : Request) → slice_get rs k ≡ Some r → is_eligible h r ≡ true)
     → earlier (elim (find is_write rs) [ None ↦ None | Some r ↦ if is_eligible h r then Some r else None ])
     (find (λ r. not (is_write r)) rs) ≡ slice_get rs 0
-first_is w h [] high rise runs going = refl
-first_is w h (r ∷ rs) high rise runs going = elim (cases_Bool (is_write r)) [
+first_is h [] high rise all_may = refl
+first_is h (r ∷ rs) high rise all_may = elim (cases_Bool (is_write r)) [
   | inl write ↦
       (let own = cond-true (is_write r) (Some r) (find is_write rs) write
       in let others =
       cond-false (not (is_write r)) (Some r) (find (λ x. not (is_write x)) rs) (not_from_true (is_write r) write)
-      in let may = eligible w h r (runs 0 r refl) going
       in ap (λ o. earlier (elim o [
         | None ↦ None
         | Some q ↦ if is_eligible h q then Some q else None
       ]) (find (λ x. not (is_write x)) (r ∷ rs))) own
-      ∙ ap (λ b. earlier (if b then Some r else None) (find (λ x. not (is_write x)) (r ∷ rs))) may
+      ∙ ap (λ b. earlier (if b then Some r else None) (find (λ x. not (is_write x)) (r ∷ rs))) (all_may 0 r refl)
       ∙ ap (earlier (Some r)) others
       ∙ before_reads r rs high (find (λ x. not (is_write x)) rs) rise.1 refl)
   | inr read ↦
@@ -91,4 +93,5 @@ first_is w h (r ∷ rs) high rise runs going = elim (cases_Bool (is_write r)) [
 pub picks_first : (w : Workload) (h : List Event) → IsAccepted w → Known w h → pick w h ≡ slice_get (queued h) 0
 picks_first w h accepted f =
     fifo_picks w h accepted
-    ∙ first_is w h (queued h) _ f.rises (λ k r at. f.runs r.id.0 r (f.waiting.queue_of k r at)) f.going
+    ∙ first_is h (queued h) (adds h) f.rises
+    (λ k r at. eligible (all_files w h) (mapped_block w h) h r (f.runs r.id.0 r (f.waiting.queue_of k r at)) f.going)

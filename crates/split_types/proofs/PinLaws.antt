@@ -15,7 +15,7 @@ use Rattle.split_types.specs.declared.call.Reply.{Reply}
 use Rattle.split_types.specs.declared.request.Request.{Request}
 use Rattle.split_types.specs.declared.workload.Workload.{Workload}
 use Rattle.split_types.specs.declared.event.Event.{Event}
-use Rattle.split_types.specs.declared.event.Event.TheVariants.{Enter, Admit, Put, Get, Ret, Serve, Add, Send, Done, Evict}
+use Rattle.split_types.specs.declared.event.Event.TheVariants.{Enter, Admit, Put, Get, Ret, Add, Send, Done, Evict}
 use Rattle.split_types.specs.History.{◌▹◌, adds}
 use Rattle.split_types.specs.Hooks.{maker}
 use Rattle.split_types.specs.Requests.{is_numbered, requests, in_flight, unfinished}
@@ -27,14 +27,17 @@ use Rattle.split_types.specs.Victims.{pinned_by}
 use Rattle.split_types.specs.Accepted.{IsAccepted}
 use Rattle.split_types.specs.Legal.{IsLegal}
 use Rattle.split_types.specs.Proving.Came.{Came, IsAtPiece}
-use Rattle.split_types.specs.Proving.Came.Came.{came_enter, came_admit, came_no_file, came_wrote, came_read, came_fault, came_put, came_get, came_zeros, came_evict, came_load, came_serve, came_add, came_send, came_done}
+use Rattle.split_types.specs.Proving.Came.Came.{came_enter, came_admit, came_changed, came_exists, came_no_slot, came_make, came_drop, came_no_file, came_too_big}
+use Rattle.split_types.specs.Proving.Came.Came.{came_wrote, came_read, came_fault, came_no_space, came_put, came_get, came_zeros, came_evict, came_load}
+use Rattle.split_types.specs.Proving.Came.Came.{came_serve, came_skip, came_map, came_grow, came_add, came_send, came_done}
 use Rattle.split_types.specs.Proving.Known.{Known}
 use Rattle.split_types.proofs.CameLaws.{came}
 use Rattle.split_types.proofs.KnownLaws.{known}
 use Rattle.split_types.proofs.Lists.{slice_get-push, filter_there, list_any_here}
 use Rattle.split_types.proofs.WaitingLaws.{number_here}
 use Rattle.split_types.proofs.KeptLists.{case_true, case_false}
-use Rattle.split_types.proofs.PutLaws.{live_of}
+use Rattle.split_types.proofs.FileLaws.{live_of}
+use Rattle.split_types.proofs.PutLaws.{bound_of}
 use Rattle.split_types.proofs.NumberLaws.{all_done_well, flying_there}
 use Rattle.split_types.proofs.StandingLaws.{Standing, standing, left_by, stands_enter, stands_admit, stands_put}
 use Rattle.split_types.proofs.StandingLaws.{stands_get, stands_ret, not_own}
@@ -46,11 +49,11 @@ abbrev page_by : Option Serial → Option Piece → Option Buf
 page_by None o = None
 page_by (Some s) o = option_map (λ x. Page s x.page) o
 
--- the page of the first piece that is left of the call of a process that stands so, where its file is there
+-- the page of the first piece that is left of the call of a process that stands so, where it is bound to a file
 abbrev page_left : Standing → Option Buf
 page_left s = page_by s.file (left_by s)
 
--- process p has an admitted call under way, and that works on the page
+-- process p has an admitted call under way, and that works on the page, or did until the file of the page was dropped
 pub record WorksOn (w : Workload) (h : List Event) (p : Pid) (b : Buf) : Type 0 where
   pub least : 1 ≤ p.0
   pub most : p.0 ≤ length w.procs
@@ -72,7 +75,8 @@ works_stay w h l p b same works = record {
 page_of : (w : Workload) (h : List Event) (p : Pid) (c : Call) (s : Serial) (piece : Piece)
     → IsAtPiece w h p c s piece → page_left (standing w h p.0) ≡ Some (Page s piece.page)
 page_of w h p c s piece here =
-    ap (λ o. page_by o (piece_left w h p.0)) here.working.file ∙ ap (page_by (Some s)) here.left
+    ap (λ o. page_by o (piece_left w h p.0)) (bound_of w h (bound_file w h p.0) s here.working.file)
+    ∙ ap (page_by (Some s)) here.left
 
 works_here : (w : Workload) (h : List Event) (p : Pid) (c : Call) (s : Serial) (piece : Piece)
     → IsAtPiece w h p c s piece → WorksOn w h p (Page s piece.page)
@@ -120,14 +124,10 @@ works_get w h q s g from to sum p b other works =
 abbrev Stay : Workload → List Event → List Event → Type 0
 Stay w h l = (p : Pid) (b : Buf) → WorksOn w h p b → WorksOn w l p b
 
--- no process comes further in its work by an eviction, and none by what others do
+-- no process comes further in its work by these
 works_evict : (w : Workload) (h : List Event) (q : Pid) (s : Serial) (g : ℕ) → Stay w h (h ▹ Evict q s g)
 works_evict w h q s g p b works =
     works_stay w h (h ▹ Evict q s g) p b refl works
-
-works_serve : (w : Workload) (h : List Event) (s : Serial) (g n : ℕ) → Stay w h (h ▹ Serve s g n)
-works_serve w h s g n p b works =
-    works_stay w h (h ▹ Serve s g n) p b refl works
 
 works_add : (w : Workload) (h : List Event) (by : Actor) (r : Request) → Stay w h (h ▹ Add by r)
 works_add w h by r p b works =
@@ -145,10 +145,10 @@ works_done w h k id p b works =
 pub record Pins (w : Workload) (h : List Event) : Type 0 where
   -- a request that isn't done is the one of its number
   pub named : (k : ℕ) (r : Request) → slice_get (outstanding h) k ≡ Some r → request_numbered h r.id ≡ Some r
-  -- the call that added a read that isn't done still works on the page that is read
+  -- the call that added a read that isn't done still works on the page that is read, or did until its file was dropped
   pub loads : (k : ℕ) (r : Request) (p : Pid) (b : Buf) → slice_get (outstanding h) k ≡ Some r
       → reader_of h r.id ≡ Some p → reads r b ≡ true → WorksOn w h p b
-  -- the call for which a page is pinned works on it
+  -- the call for which a page is pinned works on it, or did until its file was dropped
   pub pins : (p : Pid) (b : Buf) → pinned_by h b ≡ Some p → WorksOn w h p b
 
 -- what is some process other than q
@@ -327,7 +327,18 @@ pins_next w h e f same old (came_enter q c has out) =
 pins_next w h e f same old (came_admit q c has is out may) =
     pins_stay w h (h ▹ e) (λ id. refl) refl (λ id. refl) (λ b. refl)
     (λ p b works. works_admit w h q p b (not_admitted w h q p b out works) works) old
+pins_next w h e f same old (came_make q name slot admitted idle unused at) =
+    pins_stay w h (h ▹ e) (λ id. refl) refl (λ id. refl) (λ b. refl)
+    (λ p b works. works_stay w h (h ▹ e) p b refl works) old
+pins_next w h e f same old (came_drop q name serial working idle) =
+    pins_stay w h (h ▹ e) (λ id. refl) refl (λ id. refl) (λ b. refl)
+    (λ p b works. works_stay w h (h ▹ e) p b refl works) old
 pins_next w h e f same old (came_no_file q c admitted none) = pins_ret w h q _ old
+pins_next w h e f same old (came_changed q c admitted names acted) = pins_ret w h q _ old
+pins_next w h e f same old (came_exists q name admitted idle taken) = pins_ret w h q _ old
+pins_next w h e f same old (came_no_slot q name admitted idle unused none) = pins_ret w h q _ old
+pins_next w h e f same old (came_too_big q name off len fill s working big) = pins_ret w h q _ old
+pins_next w h e f same old (came_no_space q name off len fill s piece here out none) = pins_ret w h q _ old
 pins_next w h e f same old (came_wrote q name off len fill s working none) = pins_ret w h q _ old
 pins_next w h e f same old (came_read q name off len s working none) = pins_ret w h q _ old
 pins_next w h e f same old (came_fault q c s piece working left bad) = pins_ret w h q _ old
@@ -343,9 +354,19 @@ pins_next w h e f same old (came_load q c s piece here absent block at) =
     pins_add w h _ _ f same old refl (works_add w h _ _)
     (λ p b reader does. subst (λ x. WorksOn w h x b) (same_Some q p reader)
     (subst (WorksOn w h q) (sym (same_buf-is b (Page s piece.page) does)) (works_here w h q c s piece here)))
-pins_next w h e f same old (came_serve t g idle found) =
-    pins_stay w h (h ▹ e) (λ id. refl) refl (λ id. refl) (λ b. refl) (works_serve w h t g _) old
-pins_next w h e f same old (came_add run at) =
+pins_next w h e f same old (came_serve run idle found) =
+    pins_stay w h (h ▹ e) (λ id. refl) refl (λ id. refl) (λ b. refl)
+    (λ p b works. works_stay w h (h ▹ e) p b refl works) old
+pins_next w h e f same old (came_skip run at gone) =
+    pins_stay w h (h ▹ e) (λ id. refl) refl (λ id. refl) (λ b. refl)
+    (λ p b works. works_stay w h (h ▹ e) p b refl works) old
+pins_next w h e f same old (came_map run free serves there none at) =
+    pins_stay w h (h ▹ e) (λ id. refl) refl (λ id. refl) (λ b. refl)
+    (λ p b works. works_stay w h (h ▹ e) p b refl works) old
+pins_next w h e f same old (came_grow run block serves there at short) =
+    pins_stay w h (h ▹ e) (λ id. refl) refl (λ id. refl) (λ b. refl)
+    (λ p b works. works_stay w h (h ▹ e) p b refl works) old
+pins_next w h e f same old (came_add run block at there placed long) =
     pins_add w h _ _ f same old refl (works_add w h _ _)
     (λ p b reader does. absurd (cc))
 pins_next w h e f same old (came_send r free picked) =

@@ -1,5 +1,5 @@
 -- What is known of a piece that comes next.
-use Rattle.std.proofs.Common.{◌≡◌, ℕ, ◌+◌, ◌-◌, ◌/◌, ◌%◌, ◌==◌, ◌≤◌, min, List, [], option_map, nat_lt, Bool, true, false, Option, Some, None, refl, arith, subst, sym, ◌∙◌, ap, if◌then◌else◌}
+use Rattle.std.proofs.Common.{◌≡◌, ℕ, ◌+◌, ◌-◌, ◌/◌, ◌%◌, ◌==◌, ◌≤◌, min, List, [], nat_lt, Bool, true, false, Option, Some, None, refl, arith, subst, sym, ap, if◌then◌else◌}
 use Rattle.std.proofs.lemmas.Bool.{cond_both, eqb-true}
 use Rattle.std.proofs.lemmas.Bool.Decides.{nat_tests}
 use Rattle.std.proofs.lemmas.Option.{same_Some}
@@ -14,17 +14,18 @@ use Rattle.split_types.specs.History.{◌▹◌}
 use Rattle.split_types.specs.Hooks.{maker}
 use Rattle.split_types.specs.Calls.{returned, moved, call_of}
 use Rattle.split_types.specs.Files.{is_live, bound_file}
-use Rattle.split_types.specs.Workloads.{file_named}
 use Rattle.split_types.specs.FileSizes.{if_live, size_at_admit}
 use Rattle.split_types.specs.Pieces.{Piece, first_byte, bytes_to_move, piece_at, next_piece, piece_left}
 use Rattle.split_types.specs.Accepted.{IsAccepted}
 use Rattle.split_types.specs.Legal.{IsLegal}
-use Rattle.split_types.specs.Proving.Came.{Came, IsWorking, IsAtPiece}
-use Rattle.split_types.specs.Proving.Came.Came.{came_enter, came_admit, came_no_file, came_wrote, came_read, came_fault, came_put, came_get, came_zeros, came_evict, came_load, came_serve, came_add, came_send, came_done}
-use Rattle.split_types.specs.Proving.Pieces.{IsFirstLeft, WritesAt, PutIn}
-use Rattle.split_types.specs.Proving.Known.{Known}
-use Rattle.split_types.proofs.AcceptedLaws.{call_is, writes_at, moves_most, procs_most}
+use Rattle.split_types.specs.Proving.Came.{Came, IsAtPiece}
+use Rattle.split_types.specs.Proving.Came.Came.{came_enter, came_admit, came_changed, came_exists, came_no_slot, came_make, came_drop, came_no_file, came_too_big}
+use Rattle.split_types.specs.Proving.Came.Came.{came_wrote, came_read, came_fault, came_no_space, came_put, came_get, came_zeros, came_evict, came_load}
+use Rattle.split_types.specs.Proving.Came.Came.{came_serve, came_skip, came_map, came_grow, came_add, came_send, came_done}
+use Rattle.split_types.specs.Proving.Pieces.{IsFirstLeft, PutIn}
+use Rattle.split_types.proofs.AcceptedLaws.{call_is, moves_most, procs_most}
 use Rattle.split_types.proofs.CameLaws.{came}
+use Rattle.split_types.proofs.FileLaws.{live_of}
 use Rattle.split_types.proofs.KnownLaws.{known}
 
 -- ---- the piece that comes next
@@ -70,54 +71,28 @@ bound_of w h (Some t) s is = by_test (is_live w h t.0) is
     by_test true at = at
     by_test false at = absurd (cc)
 
--- and it is there
-pub live_of : (w : Workload) (h : List Event) (o : Option Serial) (s : Serial) → if_live w h o ≡ Some s
-    → is_live w h s.0 ≡ true
-live_of w h None s is = absurd (cc)
-live_of w h (Some t) s is = by_test (is_live w h t.0) refl is
-  where
-    by_test : (b : Bool) → is_live w h t.0 ≡ b → (if b then Some t else None) ≡ Some s → is_live w h s.0 ≡ true
-    by_test true live same = subst (λ x. is_live w h x.0 ≡ true) (same_Some t s same) live
-    by_test false live same = absurd (cc)
-
--- where an admitted write puts its bytes, in the file that it works on
-pub writing_at : (w : Workload) (h : List Event) (p : Pid) (name : List ℕ) (off len fill : ℕ) (s : Serial)
-    → IsAccepted w → Known w h → IsWorking w h p (Write name off len fill) s → WritesAt w name off len fill s.0
-writing_at w h p name off len fill s accepted f working =
-    let call = working.admitted.has.call
-    in let bound = bound_of w h (bound_file w h p.0) s working.file
-    in let preset = f.bound_to p.0 (Write name off len fill) call refl working.admitted.admitted
-    in writes_at w name off len fill s.0
-    (call_is w accepted p.0 (returned h p.0) (Write name off len fill) call)
-    (named (file_named w.files name) (sym preset ∙ bound))
-  where
-    named : (o : Option ℕ) → option_map (λ n. record { 0 = n }) o ≡ Some s → o ≡ Some s.0
-    named None is = absurd (cc)
-    named (Some n) is = ap (λ t. Some t.0) (same_Some (record { 0 = n }) s is)
-
-pub put_in : (w : Workload) (h : List Event) (by : Pid) (s : Serial) (g from to fill : ℕ) → IsAccepted w → Known w h
-    → Came w h (Put by s g from to fill) → PutIn w by s g from to fill
-put_in w h by s g from to fill accepted f (came_put p name off len byte t piece here may) =
-    let at = writing_at w h p name off len byte t accepted f here.working
-    in let has = here.working.admitted.has
+pub put_in : (w : Workload) (h : List Event) (by : Pid) (s : Serial) (g from to fill : ℕ) → IsAccepted w
+    → Came w h (Put by s g from to fill) → PutIn w h by s g from to fill
+put_in w h by s g from to fill accepted (came_put p name off len byte t piece here may) =
+    let has = here.working.admitted.has
+    in let taken = call_is w accepted p.0 (returned h p.0) (Write name off len byte) has.call
     in let first = piece_is w h p (Write name off len byte) piece has.call here.left
     in let bytes = piece_bytes (Write name off len byte) (size_at_admit w h p.0) (moved h p.0) piece first
     in record {
       by_least = has.first;
       by_most = has.last;
       procs_most = procs_most w accepted;
-      file = at.file;
-      page = omega (arith, at.within, bytes.page, first.some);
+      file = live_of w h (bound_file w h p.0) t here.working.file;
+      page = omega (arith, here.fits, bytes.page, first.some);
       some = omega (arith, bytes.from, bytes.to, first.some);
       to_most = omega (arith, bytes.to);
-      fill_most = at.fill_most;
+      fill_most = taken.asked.1;
     }
 
 pub put_in_legal : (w : Workload) (h : List Event) (by : Pid) (s : Serial) (g from to fill : ℕ) → IsAccepted w
-    → IsLegal w (h ▹ Put by s g from to fill) → PutIn w by s g from to fill
+    → IsLegal w (h ▹ Put by s g from to fill) → PutIn w h by s g from to fill
 put_in_legal w h by s g from to fill accepted legal =
-    put_in w h by s g from to fill accepted (known w h accepted legal.1)
-    (came w h (maker (Put by s g from to fill)) (Put by s g from to fill) legal.0)
+    put_in w h by s g from to fill accepted (came w h (maker (Put by s g from to fill)) (Put by s g from to fill) legal.0)
 
 -- ---- the bytes that a process moves
 -- a piece moves no more bytes than are left
@@ -128,7 +103,7 @@ moved_piece w h q c s piece p accepted here most =
     let call = here.working.admitted.has.call
     in let first = piece_is w h q c piece call here.left
     in let bytes = piece_bytes c (size_at_admit w h q.0) (moved h q.0) piece first
-    in let all = moves_most w c (size_at_admit w h q.0) (call_is w accepted q.0 (returned h q.0) c call)
+    in let all = moves_most c (size_at_admit w h q.0) (call_is w accepted q.0 (returned h q.0) c call)
     in cond_both (q.0 == p) (moved h p + (piece.to - piece.from)) (moved h p) (λ n. n ≤ 4128768)
     (λ same. omega (arith, first.some, all, bytes.from, bytes.to, ap (moved h) (eqb-true q.0 p same)))
     (λ _. most)
@@ -144,14 +119,24 @@ moved_next w h e p accepted (came_get q name off len s piece here held) most =
 moved_next w h e p accepted (came_zeros q name off len s piece here absent none) most =
     moved_piece w h q (Read name off len) s piece p accepted here most
 moved_next w h e p accepted (came_admit q c has in' out may) most = most
+moved_next w h e p accepted (came_make q name slot admitted idle unused at) most = most
+moved_next w h e p accepted (came_drop q name serial working idle) most = most
 moved_next w h e p accepted (came_no_file q c admitted none) most = most
+moved_next w h e p accepted (came_changed q c admitted names acted) most = most
+moved_next w h e p accepted (came_exists q name admitted idle taken) most = most
+moved_next w h e p accepted (came_no_slot q name admitted idle unused none) most = most
+moved_next w h e p accepted (came_too_big q name off len fill s working big) most = most
+moved_next w h e p accepted (came_no_space q name off len fill s piece here out none) most = most
 moved_next w h e p accepted (came_wrote q name off len fill s working none) most = most
 moved_next w h e p accepted (came_read q name off len s working none) most = most
 moved_next w h e p accepted (came_fault q c s piece working left bad) most = most
 moved_next w h e p accepted (came_evict q c s piece here absent t g found) most = most
 moved_next w h e p accepted (came_load q c s piece here absent block at) most = most
-moved_next w h e p accepted (came_serve s g idle found) most = most
-moved_next w h e p accepted (came_add run at) most = most
+moved_next w h e p accepted (came_serve run idle found) most = most
+moved_next w h e p accepted (came_skip run at gone) most = most
+moved_next w h e p accepted (came_map run free serves there none at) most = most
+moved_next w h e p accepted (came_grow run block serves there at short) most = most
+moved_next w h e p accepted (came_add run block at there placed known) most = most
 moved_next w h e p accepted (came_send r free picked) most = most
 moved_next w h e p accepted (came_done k r at) most = most
 

@@ -11,11 +11,11 @@ use Rattle.split_types.specs.declared.event.Event.TheVariants.{Enter, Admit, Put
 use Rattle.split_types.specs.History.{◌▹◌}
 use Rattle.split_types.specs.Calls.{is_entered, is_admitted, moved, call_of}
 use Rattle.split_types.specs.Files.{bound_file}
-use Rattle.split_types.specs.FileSizes.{working_file, size_at_admit}
+use Rattle.split_types.specs.FileSizes.{size_at_admit}
 use Rattle.split_types.specs.Pieces.{Piece, next_piece}
 
 -- how far a process is: a call is under way, and was admitted; that call, the size that its file had then, the bytes
--- that it moved, and the file that it works on
+-- that it moved, and the file that it is bound to, which may be dropped meanwhile
 pub record Standing : Type 0 where
   pub entered : Bool
   pub admitted : Bool
@@ -31,7 +31,7 @@ standing w h p = record {
   call = call_of w h p;
   size = size_at_admit w h p;
   bytes = moved h p;
-  file = working_file w h p;
+  file = bound_file w h p;
 }
 
 -- the first piece that is left of its call, if there is one
@@ -52,7 +52,7 @@ stands_enter w h q n p other = rw other refl
 
 pub stands_admit : (w : Workload) (h : List Event) (q : Pid) (p : ℕ) → (q.0 == p) ≡ false
     → standing w (h ▹ Admit q) p ≡ standing w h p
-stands_admit w h q p other = rw (other, size_at_admit, working_file, bound_file) refl
+stands_admit w h q p other = rw (other, size_at_admit, bound_file) refl
 
 pub stands_put : (w : Workload) (h : List Event) (q : Pid) (s : Serial) (g from to fill p : ℕ) → (q.0 == p) ≡ false
     → standing w (h ▹ Put q s g from to fill) p ≡ standing w h p
@@ -64,4 +64,4 @@ stands_get w h q s g from to sum p other = rw other refl
 
 pub stands_ret : (w : Workload) (h : List Event) (q : Pid) (r : Reply) (p : ℕ) → (q.0 == p) ≡ false
     → standing w (h ▹ Ret q r) p ≡ standing w h p
-stands_ret w h q r p other = rw (other, working_file, bound_file) refl
+stands_ret w h q r p other = rw (other, bound_file) refl

@@ -1,7 +1,8 @@
 -- Where no actor that is asked in turn has a next event, a legal history of an accepted workload is drained.
-use Rattle.std.proofs.Common.{◌≡◌, ℕ, zero, suc, ◌+◌, ◌==◌, ◌≤◌, List, [], ◌∷◌, ◌++◌, length, map, slice_get, get_or, option_map, Bool, true, false, not, ◌&&◌, Option, Some, None, refl, arith, ap, subst, sym, ◌∙◌, nat_lt, nat_le, inl, inr, if◌then◌else◌}
+use Rattle.std.proofs.Common.{◌≡◌, ℕ, zero, suc, ◌+◌, ◌==◌, ◌≤◌, List, [], ◌∷◌, ◌++◌, length, map, filter, slice_get, get_or, option_map, Bool, true, false, not, ◌&&◌, is_some, Option, Some, None, refl, arith, ap, subst, sym, ◌∙◌, nat_lt, nat_le, inl, inr, if◌then◌else◌}
+use Rattle.std.specs.Prelude.{is_none}
 use Rattle.std.specs.List.{range_with_len, list_any, list_all}
-use Rattle.std.proofs.lemmas.Bool.{and_from, and_right, eq-eqb, eqb-true, lt-ltb, not_from_false, not_from_true, cases_lt, cases_Bool, cond_both}
+use Rattle.std.proofs.lemmas.Bool.{and_from, and_parts, and_right, or_left, eq-eqb, eqb-true, lt-ltb, not_from_false, not_from_true, false_from_ne_true, cases_lt, cond_both}
 use Rattle.std.proofs.lemmas.Bool.Decides.{nat_tests}
 use Rattle.std.proofs.lemmas.List.Folds.{list_any_none}
 use Rattle.std.proofs.lemmas.Option.{slice_get_within}
@@ -10,45 +11,55 @@ use Rattle.split_types.specs.declared.ids.Serial.{Serial}
 use Rattle.split_types.specs.declared.buf.Buf.{Buf}
 use Rattle.split_types.specs.declared.buf.Buf.TheVariants.{Page}
 use Rattle.split_types.specs.declared.call.Call.{Call}
-use Rattle.split_types.specs.declared.call.Call.TheVariants.{Write, Read}
+use Rattle.split_types.specs.declared.call.Call.TheVariants.{Creat, Write, Read, Fsync, Unlink}
 use Rattle.split_types.specs.declared.call.Reply.{Reply}
 use Rattle.split_types.specs.declared.call.Reply.TheVariants as reply
 use Rattle.split_types.specs.declared.actor.Actor.{Actor}
 use Rattle.split_types.specs.declared.actor.Actor.TheVariants.{Client, Wb, Cm, Dq, Dn, Tk}
 use Rattle.split_types.specs.declared.request.Request.{Request}
 use Rattle.split_types.specs.declared.request.Run.{Run}
+use Rattle.split_types.specs.declared.request.Service.{Service}
+use Rattle.split_types.specs.declared.request.Service.TheVariants.{Idle, Serving, Mapped}
 use Rattle.split_types.specs.declared.workload.Workload.{Workload}
 use Rattle.split_types.specs.declared.event.Event.{Event}
-use Rattle.split_types.specs.declared.event.Event.TheVariants.{Enter, Admit, Ret, Serve, Add, Done, Evict}
+use Rattle.split_types.specs.declared.event.Event.TheVariants.{Enter, Admit, Ret, Serve, Skip, Done, Evict}
 use Rattle.split_types.specs.Rows.{◌⇒◌∣◌}
-use Rattle.split_types.specs.History.{◌▹◌, adds}
-use Rattle.split_types.specs.Hooks.{maker}
+use Rattle.split_types.specs.History.{◌▹◌}
+use Rattle.split_types.specs.Hooks.{maker, same_buf}
 use Rattle.split_types.specs.Requests.{requests, queued, in_flight, unfinished}
-use Rattle.split_types.specs.Pages.{is_dirty, is_ready}
-use Rattle.split_types.specs.Workloads.{processes, calls_of, all_pages}
-use Rattle.split_types.specs.Calls.{returned, is_entered, is_admitted, moved, call_of}
+use Rattle.split_types.specs.Pages.{is_dirty, is_busy, is_ready}
+use Rattle.split_types.specs.Workloads.{processes, calls_of}
+use Rattle.split_types.specs.Calls.{returned, is_entered, is_admitted, has_acted, moved, call_of}
+use Rattle.split_types.specs.Files.{is_live, is_name_taken}
 use Rattle.split_types.specs.FileSizes.{working_file}
+use Rattle.split_types.specs.FileMaps.{mapped_block, free_blocks, has_no_block, is_reserved, reserved_pages, is_without_space, is_in_mapped_run}
+use Rattle.split_types.specs.LiveFiles.{free_slot}
+use Rattle.split_types.specs.FileSlots.{live_files}
+use Rattle.split_types.specs.ServedRuns.{is_up_to, lesser_page, least_page, first_ready, run_from, run_to_serve, free_run_of}
 use Rattle.split_types.specs.Reads.{is_loading, is_read_badly}
-use Rattle.split_types.specs.HeldPages.{is_held, is_full, is_unsettled, is_crowded}
+use Rattle.split_types.specs.HeldPages.{is_held, is_full, is_unsettled, is_crowded, known_pages}
 use Rattle.split_types.specs.Victims.{victim}
 use Rattle.split_types.specs.Pieces.{Piece, is_whole, piece_left, got}
 use Rattle.split_types.specs.Schedulers.{admits, pick}
 use Rattle.split_types.specs.Accepted.{IsAccepted}
-use Rattle.split_types.specs.Clients.{PieceState, piece_state, state_left, client_state, put_of, get_of, load_of, evict_of, next_of_absent, next_of_put, next_of_get, next_on_file, next_of_admitted, next_of_call, next_of_client}
-use Rattle.split_types.specs.Writeback.{service, served_run, request_for, next_serve, serve_from, run_length}
+use Rattle.split_types.specs.Clients.{PieceState, piece_state, state_left, client_state, most_bytes, put_of, get_of, load_of, evict_of, next_of_absent, next_of_put, next_of_get, next_of_write, next_on_file, next_of_bound, make_in, next_of_creat, next_of_unlink, next_of_admitted, next_of_call, next_of_client}
+use Rattle.split_types.specs.Writeback.{service, served_run}
+use Rattle.split_types.specs.Serving.{ServiceState, service_state, bytes_up_to, map_of, map_free, add_of, next_of_placed, next_of_serving, next_of_mapped, unless_dropped, next_serve, next_in_service}
 use Rattle.split_types.specs.Next.{send_of, next, next_of_dispatcher, next_of_completion}
 use Rattle.split_types.specs.Legal.{IsLegal, is_finished, first_next}
 use Rattle.split_types.specs.Draining.{NeverStuck}
+use Rattle.split_types.specs.MapsInOrder.{IsServed}
 use Rattle.split_types.specs.Proving.Came.{Came}
-use Rattle.split_types.specs.Proving.Came.Came.{came_no_file, came_wrote, came_read, came_fault}
+use Rattle.split_types.specs.Proving.Came.Came.{came_changed, came_exists, came_no_slot, came_no_file, came_too_big, came_wrote, came_read, came_fault, came_no_space}
 use Rattle.split_types.specs.Proving.Known.{Known}
 use Rattle.split_types.specs.Proving.Pieces.{IsTaken}
 use Rattle.split_types.proofs.AcceptedLaws.{call_is}
 use Rattle.split_types.proofs.CameLaws.{came}
-use Rattle.split_types.proofs.Lists.{some_at, find_some}
-use Rattle.split_types.proofs.PageLaws.{page_is}
+use Rattle.split_types.proofs.Lists.{some_at, any_in_filter}
+use Rattle.split_types.proofs.HeldLaws.{same_buf-is, pages_are_known}
+use Rattle.split_types.proofs.MapRuns.{least_passes}
 use Rattle.split_types.proofs.WaitingLaws.{nothing_left}
-use Rattle.split_types.proofs.KnownLaws.{known}
+use Rattle.split_types.proofs.KnownLaws.{maps_known, known}
 use Rattle.split_types.proofs.PickLaws.{picks_first}
 use Rattle.split_types.proofs.VictimExists.{IsQuiet, HasVictim, quiet, not_crowded, victim_there}
 
@@ -88,10 +99,11 @@ of_client w h p least most = rw (within p (length w.procs) least most) refl
 admits_all : (w : Workload) (h : List Event) (p : ℕ) → IsAccepted w → admits w h p ≡ true
 admits_all w h p accepted = rw accepted.built.sched refl
 
--- what a client finds where the requests and writeback rest: no page loads, the stack isn't crowded, and a full cache
--- has a victim
+-- what a client finds where the requests and writeback rest: no page loads or is in a run that was mapped and not added,
+-- the stack isn't crowded, and a full cache has a victim
 record IsFree (w : Workload) (h : List Event) : Type 0 where
   loading : (b : Buf) → is_loading w h b ≡ false
+  out : (b : Buf) → is_in_mapped_run h b ≡ false
   calm : is_crowded w h ≡ false
   room : is_full w h ≡ true → HasVictim w h
 
@@ -114,8 +126,9 @@ absent_left s fill none = go (is_whole s.piece) s.block none
 put_left : (w : Workload) (h : List Event) (p : Pid) (serial : Serial) (piece : Piece) (fill : ℕ) → IsFree w h
     → next_of_put (piece_state w h p serial piece) fill ≡ None → ⊥
 put_left w h p serial piece fill free none =
-    go (is_read_badly h p.0 b) (is_loading w h b) (not (is_unsettled w h b) && is_crowded w h) (is_held w h b)
-    (is_full w h) (free.loading b) (and_right (not (is_unsettled w h b)) (is_crowded w h) free.calm) free.room none
+    go (is_read_badly h p.0 b) (is_loading w h b) (is_in_mapped_run h b) (is_without_space w h b)
+    (not (is_unsettled w h b) && is_crowded w h) (is_held w h b) (is_full w h) (free.loading b) (free.out b)
+    (and_right (not (is_unsettled w h b)) (is_crowded w h) free.calm) free.room none
   where
     b : Buf
     b = Page serial piece.page
@@ -123,17 +136,21 @@ put_left w h p serial piece fill free none =
     s : PieceState
     s = piece_state w h p serial piece
 
-    go : (bad loads waits held full : Bool) → loads ≡ false → waits ≡ false → (full ≡ true → HasVictim w h)
+    go : (bad loads mapped without waits held full : Bool) → loads ≡ false → mapped ≡ false → waits ≡ false
+        → (full ≡ true → HasVictim w h)
         → ◌≡◌ {A = Option Event}
-        (bad ⇒ Some (Ret p reply.ReadFault) ∣ loads ⇒ None ∣ waits ⇒ None ∣ held ⇒ Some (put_of s fill)
+        (bad ⇒ Some (Ret p reply.ReadFault) ∣ loads ⇒ None ∣ mapped ⇒ None
+        ∣ without ⇒ Some (Ret p (reply.NoSpace (moved h p.0))) ∣ waits ⇒ None ∣ held ⇒ Some (put_of s fill)
         ∣ full ⇒ evict_of p (victim w h) ∣ next_of_absent s fill) None
         → ⊥
-    go true loads waits held full there calm room is = absurd (cc)
-    go false true waits held full there calm room is = absurd (cc)
-    go false false true held full there calm room is = absurd (cc)
-    go false false false true full there calm room is = absurd (cc)
-    go false false false false true there calm room is = evict_left w h p (room refl) is
-    go false false false false false there calm room is = absent_left s fill is
+    go true loads mapped without waits held full there out calm room is = absurd (cc)
+    go false true mapped without waits held full there out calm room is = absurd (cc)
+    go false false true without waits held full there out calm room is = absurd (cc)
+    go false false false true waits held full there out calm room is = absurd (cc)
+    go false false false false true held full there out calm room is = absurd (cc)
+    go false false false false false true full there out calm room is = absurd (cc)
+    go false false false false false false true there out calm room is = evict_left w h p (room refl) is
+    go false false false false false false false there out calm room is = absent_left s fill is
 
 -- a piece of a read that is left has a next event
 get_left : (w : Workload) (h : List Event) (p : Pid) (serial : Serial) (piece : Piece) → IsFree w h
@@ -162,15 +179,10 @@ get_left w h p serial piece free none =
     go false false false (Some n) true there room is = evict_left w h p (room refl) is
     go false false false (Some n) false there room is = absurd (cc)
 
--- a write or read that is admitted has a next event
-file_left : (w : Workload) (h : List Event) (p : Pid) (c : Call) (serial : Serial) → IsTaken w c → IsFree w h
-    → working_file w h p.0 ≡ Some serial → next_on_file (client_state w h p) c ≡ None → ⊥
-file_left w h p (Write name off len fill) serial taken free file none =
-    go (piece_left w h p.0)
-    (subst (λ o. (elim (state_left w h p o) [
-      | None ↦ Some (Ret p reply.Done)
-      | Some s ↦ next_of_put s fill
-    ]) ≡ None) file none)
+-- a write or read that is admitted, and whose file is there, has a next event
+write_left : (w : Workload) (h : List Event) (p : Pid) (name : List ℕ) (off len fill : ℕ) (serial : Serial) → IsFree w h
+    → working_file w h p.0 ≡ Some serial → next_on_file (client_state w h p) (Write name off len fill) serial ≡ None → ⊥
+write_left w h p name off len fill serial free file none = fits (nat_lt most_bytes (off + len)) none
   where
     go : (o : Option Piece)
         → ◌≡◌ {A = Option Event}
@@ -181,7 +193,20 @@ file_left w h p (Write name off len fill) serial taken free file none =
         → ⊥
     go None is = absurd (cc)
     go (Some piece) is = put_left w h p serial piece fill free is
-file_left w h p (Read name off len) serial taken free file none =
+
+    fits : (big : Bool)
+        → ◌≡◌ {A = Option Event} (big ⇒ Some (Ret p reply.TooBig) ∣ next_of_write (client_state w h p) fill) None → ⊥
+    fits true is = absurd (cc)
+    fits false is =
+        go (piece_left w h p.0)
+        (subst (λ o. (elim (state_left w h p o) [
+          | None ↦ Some (Ret p reply.Done)
+          | Some s ↦ next_of_put s fill
+        ]) ≡ None) file is)
+
+read_left : (w : Workload) (h : List Event) (p : Pid) (name : List ℕ) (off len : ℕ) (serial : Serial) → IsFree w h
+    → working_file w h p.0 ≡ Some serial → next_on_file (client_state w h p) (Read name off len) serial ≡ None → ⊥
+read_left w h p name off len serial free file none =
     go (piece_left w h p.0)
     (subst (λ o. (elim (state_left w h p o) [
       | None ↦ Some (Ret p (reply.Count (moved h p.0) (got h p.0)))
@@ -197,21 +222,67 @@ file_left w h p (Read name off len) serial taken free file none =
         → ⊥
     go None is = absurd (cc)
     go (Some piece) is = get_left w h p serial piece free is
-file_left w h p c serial taken free file none = absurd (taken.built)
 
-admitted_left : (w : Workload) (h : List Event) (p : Pid) (c : Call) → IsTaken w c → IsFree w h
-    → next_of_admitted (client_state w h p) c ≡ None → ⊥
-admitted_left w h p c taken free none = go (working_file w h p.0) refl none
+-- a call that works on a file has a next event where it has one on each file that it may work on
+bound_left : (w : Workload) (h : List Event) (p : Pid) (c : Call)
+    → ((serial : Serial) → working_file w h p.0 ≡ Some serial
+    → next_on_file (client_state w h p) c serial ≡ None → ⊥)
+    → next_of_bound (client_state w h p) c ≡ None → ⊥
+bound_left w h p c on none = go (working_file w h p.0) refl none
   where
     go : (o : Option Serial) → working_file w h p.0 ≡ o
         → ◌≡◌ {A = Option Event}
-        (elim o [ None ↦ Some (Ret p reply.NoFile) | Some serial ↦ next_on_file (client_state w h p) c ]) None
+        (elim o [
+          | None ↦ Some (Ret p reply.NoFile)
+          | Some serial ↦ next_on_file (client_state w h p) c serial
+        ]) None
         → ⊥
     go None file is = absurd (cc)
-    go (Some serial) file is = file_left w h p c serial taken free file is
+    go (Some serial) file is = on serial file is
+
+-- a creat that is admitted has a next event
+creat_left : (w : Workload) (h : List Event) (p : Pid) → next_of_creat (client_state w h p) ≡ None → ⊥
+creat_left w h p none =
+    go (has_acted h p.0) (is_name_taken w h (call_of w h p.0)) (free_slot (live_files w h)) none
+  where
+    go : (acted taken : Bool) (o : Option ℕ)
+        → ◌≡◌ {A = Option Event}
+        (acted ⇒ Some (Ret p reply.Done) ∣ taken ⇒ Some (Ret p reply.Exists) ∣ make_in (client_state w h p) o) None
+        → ⊥
+    go true taken o is = absurd (cc)
+    go false true o is = absurd (cc)
+    go false false None is = absurd (cc)
+    go false false (Some slot) is = absurd (cc)
+
+-- an unlink that is admitted has a next event
+unlink_left : (w : Workload) (h : List Event) (p : Pid) (name : List ℕ)
+    → next_of_unlink (client_state w h p) (Unlink name) ≡ None → ⊥
+unlink_left w h p name none = go (has_acted h p.0) none
+  where
+    drops : (serial : Serial) → next_on_file (client_state w h p) (Unlink name) serial ≡ None → ⊥
+    drops serial is = absurd (cc)
+
+    go : (acted : Bool)
+        → ◌≡◌ {A = Option Event}
+        (acted ⇒ Some (Ret p reply.Done) ∣ next_of_bound (client_state w h p) (Unlink name)) None
+        → ⊥
+    go true is = absurd (cc)
+    go false is = bound_left w h p (Unlink name) (λ serial file none. drops serial none) is
+
+-- a call that is admitted has a next event
+admitted_left : (w : Workload) (h : List Event) (p : Pid) (c : Call) → IsTaken c → IsFree w h
+    → next_of_admitted (client_state w h p) c ≡ None → ⊥
+admitted_left w h p (Creat name) taken free none = creat_left w h p none
+admitted_left w h p (Write name off len fill) taken free none =
+    bound_left w h p (Write name off len fill)
+    (λ serial file is. write_left w h p name off len fill serial free file is) none
+admitted_left w h p (Read name off len) taken free none =
+    bound_left w h p (Read name off len) (λ serial file is. read_left w h p name off len serial free file is) none
+admitted_left w h p (Fsync name) taken free none = absurd (taken.built)
+admitted_left w h p (Unlink name) taken free none = unlink_left w h p name none
 
 -- a process with a call left has a next event
-call_left : (w : Workload) (h : List Event) (p : Pid) (c : Call) → IsAccepted w → IsTaken w c → IsFree w h
+call_left : (w : Workload) (h : List Event) (p : Pid) (c : Call) → IsAccepted w → IsTaken c → IsFree w h
     → next_of_call (client_state w h p) c ≡ None → ⊥
 call_left w h p c accepted taken free none =
     go (is_entered h p.0) (is_admitted h p.0) (admits w h p.0) (admits_all w h p.0 accepted) none
@@ -240,11 +311,18 @@ returned_within w (h ▹ Ret q r) p legal =
   where
     returning : (w : Workload) (h : List Event) (q : Pid) (r : Reply) → Came w h (Ret q r)
         → (c : Call) × (call_of w h q.0 ≡ Some c)
+    returning w h q r (came_changed p c admitted names acted) = (c, admitted.has.call)
+    returning w h q r (came_exists p name admitted idle taken) = (Creat name, admitted.has.call)
+    returning w h q r (came_no_slot p name admitted idle unused full) = (Creat name, admitted.has.call)
     returning w h q r (came_no_file p c admitted none) = (c, admitted.has.call)
+    returning w h q r (came_too_big p name off len fill s working big) =
+        (Write name off len fill, working.admitted.has.call)
     returning w h q r (came_wrote p name off len fill s working none) =
         (Write name off len fill, working.admitted.has.call)
     returning w h q r (came_read p name off len s working none) = (Read name off len, working.admitted.has.call)
     returning w h q r (came_fault p c s piece working left bad) = (c, working.admitted.has.call)
+    returning w h q r (came_no_space p name off len fill s piece here out none) =
+        (Write name off len fill, here.working.admitted.has.call)
 returned_within w (h ▹ e) p legal = returned_within w h p legal.1
 
 finished_is : (w : Workload) (h : List Event) (p : ℕ) → IsAccepted w → IsFree w h
@@ -275,33 +353,169 @@ all_finished w h lo (suc m) accepted free within least most none =
     (all_finished w h (lo + 1) m accepted free within (omega arith) (omega arith) here.1)
 
 -- ---- writeback
--- where it has no next event no page is ready
-serve_left : (w : Workload) (h : List Event) (b : Buf) (s : Serial) (g : ℕ) → b ≡ Page s g → serve_from w h b ≡ None → ⊥
-serve_left w h b s g is none = some (subst (λ c. serve_from w h c ≡ None) is none)
+-- where a service has no next event its file is there, and its table gives none
+unskipped : (s : ServiceState) (e : Option Event) → unless_dropped s e ≡ None → (s.live ≡ true) × (e ≡ None)
+unskipped s e none = go s.live none
   where
-    some : ◌≡◌ {A = Option Event} (Some (Serve s g (run_length w h s g))) None → ⊥
-    some e = absurd (cc)
+    go : (live : Bool) → ◌≡◌ {A = Option Event} (not live ⇒ Some Skip ∣ e) None → (live ≡ true) × (e ≡ None)
+    go true is = (refl, is)
+    go false is = absurd (cc)
 
-none_ready : (w : Workload) (h : List Event) → next w h Wb ≡ None → list_any (is_ready w h) (all_pages w) ≡ false
-none_ready w h none = go (served_run (service h)) none
+-- a run that is mapped and not added has a next event
+mapped_left : (w : Workload) (h : List Event) (run : Run) → IsAccepted w → IsLegal w h → service h ≡ Mapped run
+    → next_in_service w h (Mapped run) ≡ None → ⊥
+mapped_left w h run accepted legal at none =
+    go (mapped_block w h run.serial.0 run.page) (maps_known.mapped w h run accepted legal at)
+    (unskipped (service_state w h run) (next_of_mapped (service_state w h run)) none).1
   where
-    ready : next_serve w h ≡ None → list_any (is_ready w h) (all_pages w) ≡ false
-    ready idle = elim (cases_Bool (list_any (is_ready w h) (all_pages w))) [
-      | inr no' ↦ no'
-      | inl any ↦
-          (let first = find_some (is_ready w h) (all_pages w) any
-          in let page = page_is w first.place first.element first.there
-          in absurd (serve_left w h first.element page.serial page.page page.is
-          (subst (λ o. ◌≡◌ {A = Option Event} (elim o [ None ↦ None | Some b ↦ serve_from w h b ]) None) first.found
-          idle)))
-    ]
-
-    go : (o : Option Run)
+    go : (o : Option ℕ) → is_some o ≡ true
         → ◌≡◌ {A = Option Event}
-        (elim o [ None ↦ next_serve w h | Some run ↦ Some (Add Wb (request_for w (adds h) run)) ]) None
-        → list_any (is_ready w h) (all_pages w) ≡ false
-    go None idle = ready idle
-    go (Some run) none = absurd (cc)
+        (elim o [ None ↦ None | Some block ↦ Some (add_of (service_state w h run) block) ]) None
+        → ⊥
+    go None some is = absurd (cc)
+    go (Some block) some is = absurd (cc)
+
+-- a list of which an element passes a test isn't empty
+some_there : {X : Type 0} (p : X → Bool) (xs : List X) → list_any p xs ≡ true → 1 ≤ length xs
+some_there p [] any = absurd (cc)
+some_there p (x ∷ xs) any = omega arith
+
+-- where a page without a block is dirty some block is free
+block_left : (w : Workload) (h : List Event) (s : Serial) (g : ℕ) → IsAccepted w → IsLegal w h
+    → is_dirty w h (Page s g) ≡ true → mapped_block w h s.0 g ≡ None → 1 ≤ length (free_blocks w h)
+block_left w h s g accepted legal dirty none = omega (arith, some_there same (reserved_pages w h) kept, promised)
+  where
+    same : Buf → Bool
+    same = same_buf (Page s g)
+
+    reserved : is_reserved w h (Page s g) ≡ true
+    reserved = and_from (is_dirty w h (Page s g)) (has_no_block w h (Page s g)) dirty (ap is_none none)
+
+    kept : list_any same (reserved_pages w h) ≡ true
+    kept =
+        any_in_filter same (is_reserved w h) (known_pages h)
+        (λ b is. subst (λ x. is_reserved w h x ≡ true) (same_buf-is (Page s g) b is) reserved)
+        (pages_are_known.unsettled w h (Page s g)
+        (or_left (is_dirty w h (Page s g)) (is_busy w h (Page s g)) dirty))
+
+    promised : length (reserved_pages w h) ≤ length (free_blocks w h)
+    promised = maps_known.promised w h accepted legal
+
+-- the first page of a run that is served is dirty where its file is there
+first_dirty : (w : Workload) (h : List Event) (run : Run) → IsAccepted w → IsLegal w h → service h ≡ Serving run
+    → is_live w h run.serial.0 ≡ true → is_dirty w h (Page run.serial run.page) ≡ true
+first_dirty w h run accepted legal at live =
+    (and_parts (is_dirty w h (Page run.serial run.page)) (not (is_busy w h (Page run.serial run.page))) ready).0
+  where
+    served : IsServed w h run
+    served = maps_known.served w h run accepted legal (ap served_run at)
+
+    same : run.page + 0 ≡ run.page
+    same = omega arith
+
+    ready : is_ready w h (Page run.serial run.page) ≡ true
+    ready =
+        subst (λ g. is_ready w h (Page run.serial g) ≡ true) same
+        (served.ready live 0 (omega (arith, served.some)))
+
+-- pages without blocks get free ones
+map_left : (w : Workload) (h : List Event) (run : Run) → 1 ≤ length (free_blocks w h)
+    → map_free (service_state w h run) ≡ None → ⊥
+map_left w h run some none = go (free_blocks w h) some none
+  where
+    go : (blocks : List ℕ) → 1 ≤ length blocks
+        → ◌≡◌ {A = Option Event}
+        (elim (free_run_of blocks run.n) [
+          | None ↦ None
+          | Some f ↦ Some (map_of (service_state w h run) f.n f.first true)
+        ]) None
+        → ⊥
+    go [] some is = absurd (omega arith)
+    go (x ∷ blocks) some is = absurd (cc)
+
+-- pages that have blocks are added, or the inode is to say more bytes first
+placed_left : (s : ServiceState) (block : ℕ) → next_of_placed s block ≡ None → ⊥
+placed_left s block none = go (nat_lt s.disk_size (bytes_up_to s s.run.n)) none
+  where
+    go : (short : Bool)
+        → ◌≡◌ {A = Option Event} (short ⇒ Some (map_of s s.run.n block false) ∣ Some (add_of s block)) None → ⊥
+    go true is = absurd (cc)
+    go false is = absurd (cc)
+
+-- a run that is served and neither mapped nor added has a next event
+serving_left : (w : Workload) (h : List Event) (run : Run) → IsAccepted w → IsLegal w h → service h ≡ Serving run
+    → next_in_service w h (Serving run) ≡ None → ⊥
+serving_left w h run accepted legal at none =
+    let goes = unskipped (service_state w h run) (next_of_serving (service_state w h run)) none
+    in go goes.0 (mapped_block w h run.serial.0 run.page) refl goes.1
+  where
+    go : is_live w h run.serial.0 ≡ true → (o : Option ℕ) → mapped_block w h run.serial.0 run.page ≡ o
+        → ◌≡◌ {A = Option Event}
+        (elim o [
+          | None ↦ map_free (service_state w h run)
+          | Some block ↦ next_of_placed (service_state w h run) block
+        ]) None
+        → ⊥
+    go live None unmapped is =
+        map_left w h run
+        (block_left w h run.serial run.page accepted legal (first_dirty w h run accepted legal at live) unmapped) is
+    go live (Some block) mapped is = placed_left (service_state w h run) block is
+
+-- where writeback has no next event no service is under way
+none_served : (w : Workload) (h : List Event) → IsAccepted w → IsLegal w h → next w h Wb ≡ None → service h ≡ Idle
+none_served w h accepted legal none = go (service h) refl none
+  where
+    go : (s : Service) → service h ≡ s → next_in_service w h s ≡ None → service h ≡ Idle
+    go Idle at is = at
+    go (Serving run) at is = absurd (serving_left w h run accepted legal at is)
+    go (Mapped run) at is = absurd (mapped_left w h run accepted legal at is)
+
+-- some pages have a first one
+least_left : (bufs : List Buf) → 1 ≤ length bufs → least_page bufs ≡ None → ⊥
+least_left [] some none = absurd (omega arith)
+least_left (b ∷ bufs) some none = go (least_page bufs) none
+  where
+    either : (c : Buf) (first : Bool) → ◌≡◌ {A = Option Buf} (if first then Some b else Some c) None → ⊥
+    either c true is = absurd (cc)
+    either c false is = absurd (cc)
+
+    go : (o : Option Buf) → lesser_page b o ≡ None → ⊥
+    go None is = absurd (cc)
+    go (Some c) is = either c (is_up_to b c) is
+
+-- a run begins at a page that may be served
+run_left : (w : Workload) (h : List Event) (b : Buf) → is_ready w h b ≡ true → run_from w h b ≡ None → ⊥
+run_left w h (Page s g) ready none = absurd (cc)
+run_left w h b ready none = absurd (cc)
+
+-- where a page may be served, a run is there to serve
+serve_left : (w : Workload) (h : List Event) → list_any (is_ready w h) (known_pages h) ≡ true
+    → next_serve w h ≡ None → ⊥
+serve_left w h any none = go (first_ready w h) refl (serves (run_to_serve w h) none)
+  where
+    some : 1 ≤ length (filter (is_ready w h) (known_pages h))
+    some =
+        some_there (is_ready w h) (filter (is_ready w h) (known_pages h))
+        (any_in_filter (is_ready w h) (is_ready w h) (known_pages h) (λ b is. is) any)
+
+    serves : (o : Option Run)
+        → ◌≡◌ {A = Option Event} (elim o [ None ↦ None | Some run ↦ Some (Serve run.serial run.page run.n) ]) None
+        → o ≡ None
+    serves None is = refl
+    serves (Some run) is = absurd (cc)
+
+    go : (o : Option Buf) → first_ready w h ≡ o
+        → ◌≡◌ {A = Option Run} (elim o [ None ↦ None | Some b ↦ run_from w h b ]) None
+        → ⊥
+    go None at is = least_left (filter (is_ready w h) (known_pages h)) some at
+    go (Some b) at is = run_left w h b (least_passes (is_ready w h) (known_pages h) b at) is
+
+-- then no page may be served
+none_ready : (w : Workload) (h : List Event) → service h ≡ Idle → next w h Wb ≡ None
+    → list_any (is_ready w h) (known_pages h) ≡ false
+none_ready w h idle none =
+    false_from_ne_true (list_any (is_ready w h) (known_pages h))
+    (λ any. serve_left w h any (subst (λ s. next_in_service w h s ≡ None) idle none))
 
 -- ---- requests
 -- where no completion comes next nothing is in flight
@@ -340,10 +554,12 @@ none_unfinished w h f queue flight =
     nothing_left (requests h) (unfinished h) (λ id. f.waiting.left_once id ∙ rw (queue, flight) refl)
 
 -- ---- all actors
--- where no page is loading, dirty or busy a client finds all that
-free_to_act : (w : Workload) (h : List Event) → IsAccepted w → IsLegal w h → IsQuiet w h → IsFree w h
-free_to_act w h accepted legal q = record {
+-- where no page is loading, dirty or busy, and no service is under way, a client finds all that
+free_to_act : (w : Workload) (h : List Event) → IsAccepted w → IsLegal w h → service h ≡ Idle → IsQuiet w h
+    → IsFree w h
+free_to_act w h accepted legal idle q = record {
   loading = q.loading;
+  out = λ b. rw idle refl;
   calm = not_crowded w h accepted q;
   room = victim_there w h accepted legal q;
 }
@@ -359,14 +575,15 @@ never_stuck w h accepted legal none =
     in let dn = none_first w h (Dn 0) (Tk ∷ []) dq.1
     in let flight = none_flying h dn.0
     in let queue = none_queued w h accepted f flight dq.0
-    in let q = quiet w h accepted legal (none_unfinished w h f queue flight) (none_ready w h wb.0)
+    in let idle = none_served w h accepted legal wb.0
+    in let q = quiet w h accepted legal (none_unfinished w h f queue flight) (none_ready w h idle wb.0)
     in four (list_all (is_finished w h) (processes w)) (length (queued h) == 0) (length (in_flight h) == 0)
-    (not (list_any (is_dirty w h) (all_pages w)))
-    (all_finished w h 1 (length w.procs) accepted (free_to_act w h accepted legal q)
+    (not (list_any (is_dirty w h) (known_pages h)))
+    (all_finished w h 1 (length w.procs) accepted (free_to_act w h accepted legal idle q)
     (λ p. returned_within w h p legal) (omega arith) (omega arith) halves.0)
     (rw queue refl) (rw flight refl)
     (not_from_false _
-    (list_any_none (is_dirty w h) (all_pages w) (λ k d below. q.dirty (get_or (all_pages w) k d))))
+    (list_any_none (is_dirty w h) (known_pages h) (λ k d below. q.dirty (get_or (known_pages h) k d))))
   where
     four : (a b c d : Bool) → a ≡ true → b ≡ true → c ≡ true → d ≡ true → (a && b && c && d) ≡ true
     four a b c d p q r s = rw (p, q, r, s) refl

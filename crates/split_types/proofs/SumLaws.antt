@@ -68,6 +68,17 @@ count_by_either r p q xs either =
     each true false true is = omega arith
     each true false false is = absurd (let h = is refl in cc)
 
+-- a count of what passes a stronger test
+pub count_by_less : {X : Type 0} (r p : X → Bool) (xs : List X) → ((x : X) → r x ≡ true → p x ≡ true)
+    → count_by r xs ≤ count_by p xs
+count_by_less r p xs stronger =
+    sum_by-le-sum_by (λ x. cond (r x) 1 0) (λ x. cond (p x) 1 0) xs (λ x. each (r x) (p x) (stronger x))
+  where
+    each : (a b : Bool) → (a ≡ true → b ≡ true) → cond a 1 0 ≤ cond b 1 0
+    each false b is = omega arith
+    each true true is = omega arith
+    each true false is = absurd (let h = is refl in cc)
+
 -- a count of what passes both of two tests is smaller than that of one, where an element passes this one alone
 pub count_by_fewer : {X : Type 0} (r p q : X → Bool) (xs : List X) → ((x : X) → r x ≡ true → p x ≡ true)
     → ((x : X) → q x ≡ true → (p x ≡ true) × (r x ≡ false)) → list_any q xs ≡ true
@@ -78,7 +89,7 @@ count_by_fewer r p q (x ∷ xs) both out any =
     in let second = sum_by-cons (λ y. cond (p y) 1 0) x xs
     in elim (or_cases (q x) (list_any q xs) any) [
       | inl here ↦
-          (let rest = sum_by-le-sum_by (λ y. cond (r y) 1 0) (λ y. cond (p y) 1 0) xs (λ y. each (r y) (p y) (both y))
+          (let rest = count_by_less r p xs both
           in let this = out x here in grind arith)
       | inr later ↦ omega (arith, count_by_fewer r p q xs both out later, each (r x) (p x) (both x))
     ]

@@ -22,17 +22,18 @@ use Rattle.split_types.specs.Parents.{pages_of}
 use Rattle.split_types.specs.Sets.{pids, has, some_has, union_of}
 use Rattle.split_types.specs.Blame.{blame, tag}
 use Rattle.split_types.specs.RunningCauses.{causes_of}
-use Rattle.split_types.specs.Writeback.{request_for}
+use Rattle.split_types.specs.Serving.{request_for}
 use Rattle.split_types.specs.Accepted.{IsAccepted}
 use Rattle.split_types.specs.Legal.{IsLegal}
 use Rattle.split_types.specs.LegalHistories.{ArePayers, DirtyHaveCauses}
 use Rattle.split_types.specs.Proving.Came.{Came, read_request}
-use Rattle.split_types.specs.Proving.Came.Came.{came_enter, came_admit, came_no_file, came_wrote, came_read, came_fault, came_get, came_zeros, came_evict, came_load, came_serve, came_add, came_send, came_done}
+use Rattle.split_types.specs.Proving.Came.Came.{came_enter, came_admit, came_changed, came_exists, came_no_slot, came_make, came_drop, came_no_file, came_too_big}
+use Rattle.split_types.specs.Proving.Came.Came.{came_wrote, came_read, came_fault, came_no_space, came_get, came_zeros, came_evict, came_load}
+use Rattle.split_types.specs.Proving.Came.Came.{came_serve, came_skip, came_map, came_grow, came_add, came_send, came_done}
 use Rattle.split_types.specs.Proving.Pieces.{PutIn}
-use Rattle.split_types.specs.Proving.Known.{Known}
 use Rattle.split_types.proofs.AcceptedLaws.{procs_most}
 use Rattle.split_types.proofs.CameLaws.{came}
-use Rattle.split_types.proofs.KnownLaws.{known}
+use Rattle.split_types.proofs.KnownLaws.{maps_known}
 use Rattle.split_types.proofs.ReadyLaws.{ready_parts}
 use Rattle.split_types.proofs.PutLaws.{put_in}
 use Rattle.split_types.proofs.CausesLaws.{causes-one}
@@ -60,7 +61,7 @@ blames_still w h e i below b = record {
 }
 
 blames_put : (w : Workload) (h : List Event) (by : Pid) (s : Serial) (g from to fill i : ℕ)
-    → PutIn w by s g from to fill → i ≡ length h
+    → PutIn w h by s g from to fill → i ≡ length h
     → BlamesOne w (h ▹ Put by s g from to fill) i
 blames_put w h by s g from to fill i put last = record {
   by = by.0;
@@ -70,33 +71,42 @@ blames_put w h by s g from to fill i put last = record {
       ∙ union-one (by.0 ∷ []) (one-is_set by.0 put.by_least (omega (arith, put.by_most, put.procs_most)));
 }
 
--- of the events that come next a put alone dirties a page
-blames_new : (w : Workload) (h : List Event) (e : Event) (s : Serial) (g i : ℕ) → IsAccepted w → Known w h
-    → Came w h e → i ≡ length h → is_dirtied e (Page s g) ≡ true
-    → BlamesOne w (h ▹ e) i
-blames_new w h (Put by t k from to fill) s g i accepted f c last dirty =
-    blames_put w h by t k from to fill i (put_in w h by t k from to fill accepted f c) last
-blames_new w h e s g i accepted f (came_enter p c has out) last dirty = absurd (cc)
-blames_new w h e s g i accepted f (came_admit p c has in' out may) last dirty = absurd (cc)
-blames_new w h e s g i accepted f (came_no_file p c admitted none) last dirty = absurd (cc)
-blames_new w h e s g i accepted f (came_wrote p name off len fill t working none) last dirty = absurd (cc)
-blames_new w h e s g i accepted f (came_read p name off len t working none) last dirty = absurd (cc)
-blames_new w h e s g i accepted f (came_fault p c t piece working left bad) last dirty = absurd (cc)
-blames_new w h e s g i accepted f (came_get p name off len t piece here held) last dirty = absurd (cc)
-blames_new w h e s g i accepted f (came_zeros p name off len t piece here absent none) last dirty = absurd (cc)
-blames_new w h e s g i accepted f (came_evict p c t piece here absent v k found) last dirty = absurd (cc)
-blames_new w h e s g i accepted f (came_load p c t piece here absent block at) last dirty = absurd (cc)
-blames_new w h e s g i accepted f (came_serve t k idle found) last dirty = absurd (cc)
-blames_new w h e s g i accepted f (came_add run at) last dirty = absurd (cc)
-blames_new w h e s g i accepted f (came_send r free picked) last dirty = absurd (cc)
-blames_new w h e s g i accepted f (came_done k r at) last dirty = absurd (cc)
+-- of the events that come next a put alone dirties a page; the others dirty metadata at most
+blames_new : (w : Workload) (h : List Event) (e : Event) (s : Serial) (g i : ℕ) → IsAccepted w
+    → Came w h e → i ≡ length h → is_dirtied e (Page s g) ≡ true → BlamesOne w (h ▹ e) i
+blames_new w h (Put by t k from to fill) s g i accepted c last dirty =
+    blames_put w h by t k from to fill i (put_in w h by t k from to fill accepted c) last
+blames_new w h e s g i accepted (came_enter p c has out) last dirty = absurd (cc)
+blames_new w h e s g i accepted (came_admit p c has in' out may) last dirty = absurd (cc)
+blames_new w h e s g i accepted (came_make p name slot admitted idle unused at) last dirty = absurd (cc)
+blames_new w h e s g i accepted (came_drop p name serial working idle) last dirty = absurd (cc)
+blames_new w h e s g i accepted (came_no_file p c admitted none) last dirty = absurd (cc)
+blames_new w h e s g i accepted (came_changed p c admitted names acted) last dirty = absurd (cc)
+blames_new w h e s g i accepted (came_exists p name admitted idle taken) last dirty = absurd (cc)
+blames_new w h e s g i accepted (came_no_slot p name admitted idle unused none) last dirty = absurd (cc)
+blames_new w h e s g i accepted (came_too_big p name off len fill t working big) last dirty = absurd (cc)
+blames_new w h e s g i accepted (came_no_space p name off len fill t piece here out none) last dirty = absurd (cc)
+blames_new w h e s g i accepted (came_wrote p name off len fill t working none) last dirty = absurd (cc)
+blames_new w h e s g i accepted (came_read p name off len t working none) last dirty = absurd (cc)
+blames_new w h e s g i accepted (came_fault p c t piece working left bad) last dirty = absurd (cc)
+blames_new w h e s g i accepted (came_get p name off len t piece here held) last dirty = absurd (cc)
+blames_new w h e s g i accepted (came_zeros p name off len t piece here absent none) last dirty = absurd (cc)
+blames_new w h e s g i accepted (came_evict p c t piece here absent v k found) last dirty = absurd (cc)
+blames_new w h e s g i accepted (came_load p c t piece here absent block at) last dirty = absurd (cc)
+blames_new w h e s g i accepted (came_serve run idle found) last dirty = absurd (cc)
+blames_new w h e s g i accepted (came_skip run at gone) last dirty = absurd (cc)
+blames_new w h e s g i accepted (came_map run free serves there none at) last dirty = absurd (cc)
+blames_new w h e s g i accepted (came_grow run block serves there at short) last dirty = absurd (cc)
+blames_new w h e s g i accepted (came_add run block at there placed known) last dirty = absurd (cc)
+blames_new w h e s g i accepted (came_send r free picked) last dirty = absurd (cc)
+blames_new w h e s g i accepted (came_done k r at) last dirty = absurd (cc)
 
 -- each open dirtying of a page is a put of a process
 open_blames : (w : Workload) (h : List Event) (s : Serial) (g i : ℕ) → IsAccepted w → IsLegal w h
     → has (open_at h (Page s g)) i ≡ true → BlamesOne w h i
 open_blames w [] s g i accepted legal is = absurd (cc)
 open_blames w (h ▹ e) s g i accepted legal is = elim (open_at-more h e (Page s g) i is) [
-  | inl new ↦ blames_new w h e s g i accepted (known w h accepted legal.1) (came w h (maker e) e legal.0) new.0 new.1
+  | inl new ↦ blames_new w h e s g i accepted (came w h (maker e) e legal.0) new.0 new.1
   | inr old ↦ blames_still w h e i (open_at-below h (Page s g) i old.0) (open_blames w h s g i accepted legal.1 old.0)
 ]
 
@@ -194,24 +204,23 @@ one_pays w p accepted least most = record {
     same q is = grind (arith, nat_tests, is)
 
 -- the tag of a request that is added
-added_tag : (w : Workload) (h : List Event) (by : Actor) (r : Request) → IsAccepted w → IsLegal w h → Known w h
-    → Came w h (Add by r)
-    → ArePayers w (blame (h ▹ Add by r) (length h))
-added_tag w h by r accepted legal f (came_load p c t piece here absent block at) =
+added_tag : (w : Workload) (h : List Event) (by : Actor) (r : Request) → IsAccepted w → IsLegal w h
+    → Came w h (Add by r) → ArePayers w (blame (h ▹ Add by r) (length h))
+added_tag w h by r accepted legal (came_load p c t piece here absent block at) =
     let has = here.working.admitted.has
     in subst (ArePayers w)
     (sym (blame-new h (Add (Client p) (read_request (adds h) p t piece.page block))
     ∙ union-one (p.0 ∷ []) (one-is_set p.0 has.first (omega (arith, has.last, procs_most w accepted)))))
     (one_pays w p.0 accepted has.first has.last)
-added_tag w h by r accepted legal f (came_add run at) =
-    let served = f.serves run at in
-    let parts = ready_parts w h run.serial (run.page + 0) (served.all_ready 0 (omega (arith, served.run_is.some))) in
+added_tag w h by r accepted legal (came_add run block at there placed known) =
+    let served = maps_known.served w h run accepted legal at in
+    let parts = ready_parts w h run.serial (run.page + 0) (served.ready there 0 (omega (arith, served.some))) in
     let dirty : is_dirty w h (Page run.serial run.page) ≡ true =
     subst (λ g. is_dirty w h (Page run.serial g) ≡ true) (omega arith)
     (and_from (is_live w h run.serial.0) (is_put_since h (Page run.serial (run.page + 0))) parts.live parts.put)
     in
-    subst (ArePayers w) (sym (blame-new h (Add Wb (request_for w (adds h) run))))
-    (union_are w h run.serial run.page run.n accepted legal served.run_is.some dirty)
+    subst (ArePayers w) (sym (blame-new h (Add Wb (request_for (adds h) run block))))
+    (union_are w h run.serial run.page run.n accepted legal served.some dirty)
 
 pub tags_are_payers : (w : Workload) (h : List Event) (id : ℕ) → IsAccepted w → IsLegal w h → id < adds h
     → ArePayers w (tag h id)
@@ -221,8 +230,7 @@ tags_are_payers w (h ▹ Add by r) id accepted legal below = elim (cases_lt id (
   | inr new ↦
       let last : id ≡ adds h = omega arith in
       subst (ArePayers w) (sym (ap (tag (h ▹ Add by r)) last ∙ tag-new h by r))
-      (added_tag w h by r accepted legal.1 (known w h accepted legal.1)
-      (came w h (maker (Add by r)) (Add by r) legal.0))
+      (added_tag w h by r accepted legal.1 (came w h (maker (Add by r)) (Add by r) legal.0))
 ]
 tags_are_payers w (h ▹ e) id accepted legal below = tags_are_payers w h id accepted legal.1 below
 

@@ -1,52 +1,29 @@
 -- Where no request waits and no page is ready, the cache has room, or a page that may be evicted.
-use Rattle.std.proofs.Common.{◌≡◌, ℕ, ◌-◌, ◌==◌, ◌<◌, ◌≤◌, List, [], ◌∷◌, length, filter, count_by, Bool, true, false, not, ◌&&◌, ◌||◌, is_some, Option, Some, None, refl, arith, subst, sym, inl, inr, ap, ◌∙◌}
+use Rattle.std.proofs.Common.{◌≡◌, ℕ, ◌-◌, ◌≤◌, List, [], ◌∷◌, length, filter, count_by, Bool, true, false, not, ◌&&◌, ◌||◌, is_some, Option, Some, None, refl, arith, subst, sym, ap, ◌∙◌}
 use Rattle.std.specs.List.{list_any}
-use Rattle.std.proofs.lemmas.Bool.{or_cases, and_parts, and_from, and_right, or_from, both_ways, cond-false, eqb-true, eq-eqb, leb-true, lt-leb, not_from_false, false_from_ne_true}
+use Rattle.std.proofs.lemmas.Bool.{and_parts, and_from, and_right, or_from, or_left, both_ways, cond-false, eqb-true, eq-eqb, leb-true, lt-leb, not_from_false, false_from_ne_true}
 use Rattle.split_types.specs.declared.ids.Pid.{Pid}
 use Rattle.split_types.specs.declared.ids.Serial.{Serial}
 use Rattle.split_types.specs.declared.buf.Buf.{Buf}
 use Rattle.split_types.specs.declared.buf.Buf.TheVariants.{Page, Bitmap, Dir, Inode}
 use Rattle.split_types.specs.declared.workload.Workload.{Workload}
 use Rattle.split_types.specs.declared.event.Event.{Event}
-use Rattle.split_types.specs.declared.event.Event.TheVariants.{Put, Add}
-use Rattle.split_types.specs.History.{◌▹◌}
 use Rattle.split_types.specs.Hooks.{same_buf, covers}
 use Rattle.split_types.specs.Requests.{unfinished}
-use Rattle.split_types.specs.Workloads.{all_pages, pages_in}
-use Rattle.split_types.specs.Pages.{is_live_page, is_put_since, is_dirty, is_busy, is_ready}
+use Rattle.split_types.specs.Pages.{is_live_page, is_dirty, is_busy, is_ready}
 use Rattle.split_types.specs.Reads.{reads, outstanding, is_loading, is_process}
 use Rattle.split_types.specs.HeldPages.{is_held, is_unsettled, known_pages, held_pages, is_full, unsettled_pages, is_crowded}
 use Rattle.split_types.specs.Victims.{pinned_by, is_pinned, is_evictable, victim}
 use Rattle.split_types.specs.Accepted.{IsAccepted}
 use Rattle.split_types.specs.Legal.{IsLegal}
-use Rattle.split_types.proofs.Lists.{filter_there, count_filter_less}
-use Rattle.split_types.proofs.PutLaws.{put_in_legal}
-use Rattle.split_types.proofs.DirtyLaws.{any_page}
-use Rattle.split_types.proofs.HeldLaws.{pages_are_known}
+use Rattle.split_types.proofs.Lists.{list_any_here, find_some, filter_there, count_filter_less}
+use Rattle.split_types.proofs.HeldLaws.{same_buf-is, pages_are_known}
 use Rattle.split_types.proofs.VictimLaws.{victims_are_oldest}
 use Rattle.split_types.proofs.Pigeonhole.{count_once, few_elements}
 use Rattle.split_types.proofs.NumberLaws.{all_done_well}
 use Rattle.split_types.proofs.PinLaws.{Pins, pins, pins_one}
 
 -- ---- no page loads, or is dirty or busy
--- what was put is a page of a preset file
-put_within : (w : Workload) (h : List Event) (s : Serial) (g : ℕ) → IsAccepted w → IsLegal w h
-    → is_put_since h (Page s g) ≡ true → (s.0 < length w.files) × (g < pages_in w s.0)
-put_within w [] s g accepted legal put = absurd (cc)
-put_within w (h ▹ Put by t k from to fill) s g accepted legal put =
-    elim (or_cases (same_buf (Page s g) (Page t k)) (is_put_since h (Page s g)) put) [
-      | inl here ↦ (let in' = put_in_legal w h by t k from to fill accepted legal
-          in let same = and_parts (s.0 == t.0) (g == k) here
-          in let file : s.0 ≡ t.0 = eqb-true s.0 t.0 same.0
-          in let page : g ≡ k = eqb-true g k same.1
-          in let within : g < pages_in w t.0 = omega (arith, page, in'.page)
-          in (omega (arith, file, in'.file), subst (λ n. g < pages_in w n) (sym file) within))
-      | inr later ↦ put_within w h s g accepted legal.1 later
-    ]
-put_within w (h ▹ Add by r) s g accepted legal put =
-    put_within w h s g accepted legal.1 (and_parts (not (covers r (Page s g))) (is_put_since h (Page s g)) put).1
-put_within w (h ▹ e) s g accepted legal put = put_within w h s g accepted legal.1 put
-
 -- no page is loading, dirty or busy
 pub record IsQuiet (w : Workload) (h : List Event) : Type 0 where
   pub loading : (b : Buf) → is_loading w h b ≡ false
@@ -62,26 +39,26 @@ none_loading : (w : Workload) (h : List Event) (b : Buf) → outstanding h ≡ [
 none_loading w h b none =
     ap (λ l. is_live_page w h b && list_any (λ r. reads r b) l) none ∙ and_right (is_live_page w h b) false refl
 
-none_dirty : (w : Workload) (h : List Event) (b : Buf) → IsAccepted w → IsLegal w h → unfinished h ≡ []
-    → list_any (is_ready w h) (all_pages w) ≡ false → is_dirty w h b ≡ false
-none_dirty w h (Page s g) accepted legal none ready =
-    false_from_ne_true (is_dirty w h (Page s g)) (λ dirty. not_ready dirty)
+none_dirty : (w : Workload) (h : List Event) (b : Buf) → unfinished h ≡ []
+    → list_any (is_ready w h) (known_pages h) ≡ false → is_dirty w h b ≡ false
+none_dirty w h b none ready = false_from_ne_true (is_dirty w h b) (λ dirty. not_ready dirty)
   where
-    not_ready : is_dirty w h (Page s g) ≡ true → ⊥
+    not_ready : is_dirty w h b ≡ true → ⊥
     not_ready dirty =
-        let put = (and_parts (is_live_page w h (Page s g)) (is_put_since h (Page s g)) dirty).1
-        in let within = put_within w h s g accepted legal put
-        in both_ways (list_any (is_ready w h) (all_pages w)) ready
-        (any_page (is_ready w h) w s g within.0 within.1
-        (and_from (is_dirty w h (Page s g)) (not (is_busy w h (Page s g))) dirty
-        (not_from_false (is_busy w h (Page s g)) (none_busy w h (Page s g) none))))
-none_dirty w h b accepted legal none ready = refl
+        let known = pages_are_known.unsettled w h b (or_left (is_dirty w h b) (is_busy w h b) dirty)
+        in let found = find_some (same_buf b) (known_pages h) known
+        in both_ways (list_any (is_ready w h) (known_pages h)) ready
+        (list_any_here (is_ready w h) (known_pages h) found.place found.element found.there
+        (subst (λ x. is_ready w h x ≡ true) (same_buf-is b found.element found.passes)
+        (and_from (is_dirty w h b) (not (is_busy w h b)) dirty
+        (not_from_false (is_busy w h b) (none_busy w h b none)))))
 
+-- no page is loading, dirty or busy where no request is left, and no page that was put may be served
 pub quiet : (w : Workload) (h : List Event) → IsAccepted w → IsLegal w h → unfinished h ≡ []
-    → list_any (is_ready w h) (all_pages w) ≡ false → IsQuiet w h
+    → list_any (is_ready w h) (known_pages h) ≡ false → IsQuiet w h
 quiet w h accepted legal none ready = record {
   loading = λ b. none_loading w h b (all_done_well w h legal ∙ none);
-  dirty = λ b. none_dirty w h b accepted legal none ready;
+  dirty = λ b. none_dirty w h b none ready;
   busy = λ b. none_busy w h b none;
 }
 

@@ -1,6 +1,6 @@
 -- What each process has done in a legal history, and what its calls allow it to do.
 use Rattle.std.proofs.Common.{◌≡◌, ℕ, ◌+◌, ◌-◌, ◌*◌, ◌/◌, ◌==◌, ◌<◌, ◌≤◌, List, [], length, take, slice_get, Bool, true, false, not, ◌&&◌, ◌||◌, Some, refl, arith, ap, subst, subst₂, cond, sum_by, if◌then◌else◌}
-use Rattle.std.proofs.lemmas.Bool.{eqb-true}
+use Rattle.std.proofs.lemmas.Bool.{eqb-true, or_right}
 use Rattle.std.proofs.lemmas.List.Sums.{sum_by_more}
 use Rattle.std.proofs.lemmas.Option.{slice_get_within, get_or_from_slice_get}
 use Rattle.split_types.specs.declared.ids.Pid.{Pid}
@@ -9,19 +9,21 @@ use Rattle.split_types.specs.declared.call.Call.{Call}
 use Rattle.split_types.specs.declared.call.Call.TheVariants.{Creat, Write, Read, Fsync, Unlink}
 use Rattle.split_types.specs.declared.workload.Workload.{Workload}
 use Rattle.split_types.specs.declared.event.Event.{Event}
-use Rattle.split_types.specs.declared.event.Event.TheVariants.{Enter, Admit, Put, Get, Ret}
+use Rattle.split_types.specs.declared.event.Event.TheVariants.{Enter, Admit, Make, Put, Get, Drop, Ret}
 use Rattle.split_types.specs.History.{◌▹◌}
 use Rattle.split_types.specs.Workloads.{calls_of, span}
-use Rattle.split_types.specs.Calls.{returned, is_entered, is_admitted, moved, call_of}
+use Rattle.split_types.specs.Calls.{returned, is_entered, is_admitted, has_acted, moved, call_of}
 use Rattle.split_types.specs.Files.{file_for}
 use Rattle.split_types.specs.FileSizes.{size_of_some, size_at_admit}
 use Rattle.split_types.specs.Pieces.{Piece, first_byte, bytes_to_move, piece_left}
 use Rattle.split_types.specs.Proving.Pieces.{IsFirstLeft}
 use Rattle.split_types.specs.Proving.Came.{Came, IsAdmitted, IsAtPiece}
 use Rattle.split_types.proofs.PutLaws.{piece_is, piece_bytes}
-use Rattle.split_types.specs.Proving.Came.Came.{came_enter, came_admit, came_no_file, came_wrote, came_read, came_fault, came_put, came_get, came_zeros, came_evict, came_load, came_serve, came_add, came_send, came_done}
+use Rattle.split_types.specs.Proving.Came.Came.{came_enter, came_admit, came_changed, came_exists, came_no_slot, came_make, came_drop, came_no_file, came_too_big}
+use Rattle.split_types.specs.Proving.Came.Came.{came_wrote, came_read, came_fault, came_no_space, came_put, came_get, came_zeros, came_evict, came_load}
+use Rattle.split_types.specs.Proving.Came.Came.{came_serve, came_skip, came_map, came_grow, came_add, came_send, came_done}
 
--- how many events process p made
+-- how many events process p made, but for those that made or dropped a file
 abbrev pub acts : List Event → ℕ → ℕ
 acts [] p = 0
 acts (h ▹ Enter by k) p = if by.0 == p then acts h p + 1 else acts h p
@@ -30,6 +32,13 @@ acts (h ▹ Put by serial page from to fill) p = if by.0 == p then acts h p + 1 
 acts (h ▹ Get by serial page from to sum) p = if by.0 == p then acts h p + 1 else acts h p
 acts (h ▹ Ret by r) p = if by.0 == p then acts h p + 1 else acts h p
 acts (h ▹ e) p = acts h p
+
+-- how many files process p made or dropped
+abbrev pub changes : List Event → ℕ → ℕ
+changes [] p = 0
+changes (h ▹ Make by slot serial) p = if by.0 == p then changes h p + 1 else changes h p
+changes (h ▹ Drop by slot serial) p = if by.0 == p then changes h p + 1 else changes h p
+changes (h ▹ e) p = changes h p
 
 -- how many pieces process p has put or got
 abbrev pub pieces : List Event → ℕ → ℕ
@@ -73,6 +82,16 @@ abbrev pub Work : Workload → List Event → ℕ → Type 0
 Work w h p =
     WorkAt (calls_of w p) (acts h p) (returned h p) (pieces h p) (pieces_now h p) (moved h p) (size_at_admit w h p)
     (is_entered h p) (is_admitted h p)
+
+-- what a process has made or dropped: so many files, in so many calls that returned and the one that is entered, where
+-- that has acted
+pub record ChangesAt (all back : ℕ) (entered acted : Bool) : Type 0 where
+  pub counted : all ≤ back + cond acted 1 0
+  pub inside : acted ≡ true → entered ≡ true
+
+-- what process p has made or dropped
+abbrev pub Changes : List Event → ℕ → Type 0
+Changes h p = ChangesAt (changes h p) (returned h p) (is_entered h p) (has_acted h p)
 
 start_along : (c : Call) (size bytes n : ℕ) → n ≡ 0 → bytes ≡ 0 → IsAlong c size bytes n
 start_along c size bytes n none no_bytes = record {
@@ -242,14 +261,98 @@ work_kept w h e p (came_get q name off len s piece here held) k = piece_kept w h
 work_kept w h e p (came_zeros q name off len s piece here absent none) k =
     piece_kept w h q (Read name off len) s piece p here k
 work_kept w h e p (came_no_file q c admitted none) k = ret_kept w h q c p admitted k
+work_kept w h e p (came_changed q c admitted names acted) k = ret_kept w h q c p admitted k
+work_kept w h e p (came_exists q name admitted idle taken) k = ret_kept w h q (Creat name) p admitted k
+work_kept w h e p (came_no_slot q name admitted idle unused none) k =
+    ret_kept w h q (Creat name) p admitted k
+work_kept w h e p (came_too_big q name off len fill s working big) k =
+    ret_kept w h q (Write name off len fill) p working.admitted k
+work_kept w h e p (came_no_space q name off len fill s piece here out none) k =
+    ret_kept w h q (Write name off len fill) p here.working.admitted k
 work_kept w h e p (came_wrote q name off len fill s working none) k =
     ret_kept w h q (Write name off len fill) p working.admitted k
 work_kept w h e p (came_read q name off len s working none) k =
     ret_kept w h q (Read name off len) p working.admitted k
 work_kept w h e p (came_fault q c s piece working left bad) k = ret_kept w h q c p working.admitted k
+work_kept w h e p (came_make q name slot admitted idle unused at) k = k
+work_kept w h e p (came_drop q name s working idle) k = k
 work_kept w h e p (came_evict q c s piece here absent t g found) k = k
 work_kept w h e p (came_load q c s piece here absent block at) k = k
-work_kept w h e p (came_serve s g none found) k = k
-work_kept w h e p (came_add run is) k = k
+work_kept w h e p (came_serve run none found) k = k
+work_kept w h e p (came_skip run at gone) k = k
+work_kept w h e p (came_map run free serves there none at) k = k
+work_kept w h e p (came_grow run block serves there at short) k = k
+work_kept w h e p (came_add run block is there placed known) k = k
 work_kept w h e p (came_send r few oldest) k = k
 work_kept w h e p (came_done j r at) k = k
+
+-- ---- what each process makes and drops
+changes_enter : (m r : ℕ) (en ac b : Bool) → ChangesAt m r en ac → ChangesAt m r (b || en) ac
+changes_enter m r en ac b k = record { counted = k.counted; inside = λ acted. or_right b en (k.inside acted) }
+
+changes_more : (m r : ℕ) (en ac b : Bool) → (b ≡ true → en ≡ true) → (b ≡ true → ac ≡ false) → ChangesAt m r en ac
+    → ChangesAt (if b then m + 1 else m) r en (b || ac)
+changes_more m r en ac false is out k = k
+changes_more m r en ac true is out k = record {
+  counted = more (subst (λ x. m ≤ r + cond x 1 0) (out refl) k.counted);
+  inside = λ acted. is refl;
+}
+  where
+    more : m ≤ r + 0 → m + 1 ≤ r + 1
+    more l = omega arith
+
+changes_back : (m r : ℕ) (en ac b : Bool) → ChangesAt m r en ac
+    → ChangesAt m (if b then r + 1 else r) (not b && en) (not b && ac)
+changes_back m r en ac false k = k
+changes_back m r en ac true k = record { counted = most ac k.counted; inside = λ acted. absurd (cc) }
+  where
+    most : (x : Bool) → m ≤ r + cond x 1 0 → m ≤ r + 1 + 0
+    most true l = omega arith
+    most false l = omega arith
+
+-- process q makes or drops a file
+changes_acted : (w : Workload) (h : List Event) (q : Pid) (c : Call) (p : ℕ) → IsAdmitted w h q c
+    → has_acted h q.0 ≡ false → Changes h p
+    → ChangesAt (if q.0 == p then changes h p + 1 else changes h p) (returned h p) (is_entered h p)
+    (q.0 == p || has_acted h p)
+changes_acted w h q c p admitted idle k =
+    changes_more (changes h p) (returned h p) (is_entered h p) (has_acted h p) (q.0 == p)
+    (λ t. subst (λ x. is_entered h x ≡ true) (eqb-true q.0 p t) admitted.entered)
+    (λ t. subst (λ x. has_acted h x ≡ false) (eqb-true q.0 p t) idle) k
+
+-- a call of process q returns
+changes_ret : (h : List Event) (q : Pid) (p : ℕ) → Changes h p
+    → ChangesAt (changes h p) (if q.0 == p then returned h p + 1 else returned h p)
+    (not (q.0 == p) && is_entered h p) (not (q.0 == p) && has_acted h p)
+changes_ret h q p k = changes_back (changes h p) (returned h p) (is_entered h p) (has_acted h p) (q.0 == p) k
+
+-- an event that comes next keeps what is known of the files that each process made or dropped
+pub changes_kept : (w : Workload) (h : List Event) (e : Event) (p : ℕ) → Came w h e → Changes h p → Changes (h ▹ e) p
+changes_kept w h e p (came_enter q c has out) k =
+    changes_enter (changes h p) (returned h p) (is_entered h p) (has_acted h p) (q.0 == p) k
+changes_kept w h e p (came_make q name slot admitted idle unused at) k =
+    changes_acted w h q (Creat name) p admitted idle k
+changes_kept w h e p (came_drop q name s working idle) k =
+    changes_acted w h q (Unlink name) p working.admitted idle k
+changes_kept w h e p (came_no_file q c admitted none) k = changes_ret h q p k
+changes_kept w h e p (came_changed q c admitted names acted) k = changes_ret h q p k
+changes_kept w h e p (came_exists q name admitted idle taken) k = changes_ret h q p k
+changes_kept w h e p (came_no_slot q name admitted idle unused none) k = changes_ret h q p k
+changes_kept w h e p (came_too_big q name off len fill s working big) k = changes_ret h q p k
+changes_kept w h e p (came_no_space q name off len fill s piece here out none) k = changes_ret h q p k
+changes_kept w h e p (came_wrote q name off len fill s working none) k = changes_ret h q p k
+changes_kept w h e p (came_read q name off len s working none) k = changes_ret h q p k
+changes_kept w h e p (came_fault q c s piece working left bad) k = changes_ret h q p k
+changes_kept w h e p (came_admit q c has is out may) k = k
+changes_kept w h e p (came_put q name off len fill s piece here may) k = k
+changes_kept w h e p (came_get q name off len s piece here held) k = k
+changes_kept w h e p (came_zeros q name off len s piece here absent none) k = k
+changes_kept w h e p (came_evict q c s piece here absent t g found) k = k
+changes_kept w h e p (came_load q c s piece here absent block at) k = k
+changes_kept w h e p (came_serve run none found) k = k
+changes_kept w h e p (came_skip run at gone) k = k
+changes_kept w h e p (came_map run free serves there none at) k = k
+changes_kept w h e p (came_grow run block serves there at short) k = k
+changes_kept w h e p (came_add run block is there placed known) k = k
+changes_kept w h e p (came_send r few oldest) k = k
+changes_kept w h e p (came_done j r at) k = k

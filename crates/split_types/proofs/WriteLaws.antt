@@ -19,14 +19,13 @@ use Rattle.split_types.specs.Accepted.{IsAccepted}
 use Rattle.split_types.specs.Legal.{IsLegal}
 use Rattle.split_types.specs.Proving.Came.{Came}
 use Rattle.split_types.specs.Proving.Came.Came.{came_load, came_add, came_done}
-use Rattle.split_types.specs.Proving.Runs.{MovesRun}
 use Rattle.split_types.specs.Proving.Known.{Known}
 use Rattle.split_types.proofs.Lists.{slice_get-push, find_some, counted_here, count_none}
 use Rattle.split_types.proofs.WaitingLaws.{number_here, same_number}
 use Rattle.split_types.proofs.CameLaws.{came}
 use Rattle.split_types.proofs.KnownLaws.{known}
 use Rattle.split_types.proofs.KeptLists.{case_true, case_false, one_passes}
-use Rattle.split_types.proofs.CoverLaws.{written, same_page}
+use Rattle.split_types.proofs.CoverLaws.{MovesIn, written, same_page}
 
 -- ---- adds
 pub adding_new : (h : List Event) (by : Actor) (r : Request)
@@ -42,7 +41,7 @@ adding_old h by r id other =
 -- a request that is added has the next number
 pub add_number : (w : Workload) (h : List Event) (by : Actor) (r : Request) → Came w h (Add by r) → r.id.0 ≡ adds h
 add_number w h by r (came_load p c s piece here absent block at) = refl
-add_number w h by r (came_add run at) = refl
+add_number w h by r (came_add run block at there placed long) = refl
 
 pub adding_kept : (w : Workload) (h : List Event) (e : Event) (id : ReqId) → IsLegal w (h ▹ e) → id.0 < adds h
     → adding (h ▹ e) id ≡ adding h id
@@ -90,7 +89,7 @@ before_legal w (h ▹ e) id a legal at = before_legal w h id a legal.1 at
 
 -- ---- requests that aren't done well
 pub left_run : (w : Workload) (h : List Event) (k : ℕ) (r : Request) → Known w h
-    → slice_get (unfinished h) k ≡ Some r → MovesRun w r
+    → slice_get (unfinished h) k ≡ Some r → MovesIn w h r
 left_run w h k r f at = f.runs r.id.0 r (f.waiting.left_of k r at)
 
 -- no two of them write one block
@@ -99,11 +98,11 @@ pub writes_apart : (w : Workload) (h : List Event) (x i j : ℕ) (q r : Request)
     → writes r x ≡ true → i ≡ j
 writes_apart w h x i j q r accepted legal at there first second =
     let f = known w h accepted legal
-    in let one = written w q x (left_run w h i q f at) first
-    in let two = written w r x (left_run w h j r f there) second
+    in let one = written w h q x (left_run w h i q f at) first
+    in let two = written w h r x (left_run w h j r f there) second
     in one_passes (λ z. covers z (Page one.serial one.page)) (unfinished h) i j q r at there one.covers_it
-    (subst (λ b. covers r b ≡ true) (same_page w two.serial two.page one.serial one.page x two.preset one.preset)
-    two.covers_it)
+    (subst (λ b. covers r b ≡ true)
+    (same_page w h two.serial two.page one.serial one.page x accepted legal two.at one.at) two.covers_it)
     (f.takes one.serial one.page)
 
 -- a request that is done now: it was in flight, so not done before
@@ -115,7 +114,7 @@ pub record IsDone (w : Workload) (h : List Event) (k : ℕ) (id : ReqId) : Type 
   pub place : ℕ
   pub there : slice_get (unfinished h) place ≡ Some request
   pub added : adding h id ≡ Some (record { request = request; before = before })
-  pub run : MovesRun w request
+  pub run : MovesIn w h request
 
 done_of : (w : Workload) (h : List Event) (k : ℕ) (r : Request) → IsAccepted w → IsLegal w h
     → slice_get (in_flight h) k ≡ Some r → IsDone w h k r.id

@@ -4,7 +4,7 @@ use Rattle.split_types.specs.declared.call.Call.{Call}
 use Rattle.split_types.specs.declared.call.Call.TheVariants.{Creat, Write, Read, Fsync, Unlink}
 use Rattle.split_types.specs.declared.workload.Workload.{Workload}
 use Rattle.split_types.specs.declared.event.Event.{Event}
-use Rattle.split_types.specs.declared.event.Event.TheVariants.{Enter, Admit, Put, Get, Ret}
+use Rattle.split_types.specs.declared.event.Event.TheVariants.{Enter, Admit, Make, Put, Get, Drop, Ret}
 use Rattle.split_types.specs.History.{◌▹◌}
 use Rattle.split_types.specs.Workloads.{calls_of}
 
@@ -27,6 +27,14 @@ is_admitted [] p = false
 is_admitted (h ▹ Admit by) p = by.0 == p || is_admitted h p
 is_admitted (h ▹ Ret by r) p = not (by.0 == p) && is_admitted h p
 is_admitted (h ▹ e) p = is_admitted h p
+
+-- the call of process p under way made its file, or dropped it
+abbrev pub has_acted : List Event → ℕ → Bool
+has_acted [] p = false
+has_acted (h ▹ Make by slot serial) p = by.0 == p || has_acted h p
+has_acted (h ▹ Drop by slot serial) p = by.0 == p || has_acted h p
+has_acted (h ▹ Ret by r) p = not (by.0 == p) && has_acted h p
+has_acted (h ▹ e) p = has_acted h p
 
 -- how many bytes process p has put or got since it last entered a call
 abbrev pub moved : List Event → ℕ → ℕ

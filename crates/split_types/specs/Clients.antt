@@ -1,7 +1,8 @@
 -- What a client does next.
-use Rattle.std.specs.Prelude.{ℕ, List, Bool, not, ◌&&◌, option_map, Option, Some, None, if◌then◌else◌}
+use Rattle.std.specs.Prelude.{ℕ, ◌+◌, List, Bool, nat_lt, not, ◌&&◌, option_map, Option, Some, None, if◌then◌else◌}
 use Rattle.split_types.specs.declared.ids.Pid.{Pid}
 use Rattle.split_types.specs.declared.ids.Serial.{Serial}
+use Rattle.split_types.specs.declared.ids.Slot.{Slot}
 use Rattle.split_types.specs.declared.actor.Actor.TheVariants.{Client}
 use Rattle.split_types.specs.declared.buf.Buf.{Buf}
 use Rattle.split_types.specs.declared.buf.Buf.TheVariants.{Page}
@@ -11,16 +12,19 @@ use Rattle.split_types.specs.declared.call.Reply.TheVariants as reply
 use Rattle.split_types.specs.declared.request.ReqKind.TheVariants as kind
 use Rattle.split_types.specs.declared.workload.Workload.{Workload}
 use Rattle.split_types.specs.declared.event.Event.{Event}
-use Rattle.split_types.specs.declared.event.Event.TheVariants.{Enter, Admit, Put, Get, Ret, Add, Evict}
+use Rattle.split_types.specs.declared.event.Event.TheVariants.{Enter, Admit, Make, Put, Get, Drop, Ret, Add, Evict}
 use Rattle.split_types.specs.History.{adds}
 use Rattle.split_types.specs.Rows.{◌⇒◌∣◌}
-use Rattle.split_types.specs.Calls.{returned, is_entered, is_admitted, moved, call_of}
+use Rattle.split_types.specs.Calls.{returned, is_entered, is_admitted, has_acted, moved, call_of}
 use Rattle.split_types.specs.Schedulers.{admits}
 use Rattle.split_types.specs.Reads.{is_loading, is_read_badly}
 use Rattle.split_types.specs.HeldPages.{is_held, is_full, is_unsettled, is_crowded}
 use Rattle.split_types.specs.Victims.{victim}
 use Rattle.split_types.specs.FileSizes.{working_file}
-use Rattle.split_types.specs.FileMaps.{mapped_block}
+use Rattle.split_types.specs.Files.{is_name_taken}
+use Rattle.split_types.specs.FileMaps.{mapped_block, is_without_space, is_in_mapped_run}
+use Rattle.split_types.specs.LiveFiles.{free_slot}
+use Rattle.split_types.specs.FileSlots.{live_files, next_serial, slot_of_some}
 use Rattle.split_types.specs.PageBytes.{sum_of_bytes}
 use Rattle.split_types.specs.Pieces.{Piece, is_whole, piece_left, got}
 
@@ -34,12 +38,17 @@ pub record PieceState : Type 0 where
   pub piece : Piece
   -- a read of the page that this call added was done badly
   pub read_badly : Bool
-  -- the page is loading; it is dirty or busy; it is held
+  -- the bytes that the call has moved before
+  pub moved : ℕ
+  -- the page is loading; it is in the run that writeback has mapped and not added; it is dirty or busy; it is held
   pub loading : Bool
+  pub in_mapped_run : Bool
   pub unsettled : Bool
   pub held : Bool
   -- the block of the page; none where it has none
   pub block : Option ℕ
+  -- the page has no block, and none can be promised to it
+  pub without_space : Bool
   -- too many pages are dirty or busy; no place of the cache is free; the page that is evicted next
   pub crowded : Bool
   pub full : Bool
@@ -55,10 +64,13 @@ piece_state w h p serial piece = record {
   serial = serial;
   piece = piece;
   read_badly = is_read_badly h p.0 (Page serial piece.page);
+  moved = moved h p.0;
   loading = is_loading w h (Page serial piece.page);
+  in_mapped_run = is_in_mapped_run h (Page serial piece.page);
   unsettled = is_unsettled w h (Page serial piece.page);
   held = is_held w h (Page serial piece.page);
   block = mapped_block w h serial.0 piece.page;
+  without_space = is_without_space w h (Page serial piece.page);
   crowded = is_crowded w h;
   full = is_full w h;
   victim = victim w h;
@@ -78,8 +90,16 @@ pub record ClientState : Type 0 where
   pub entered : Bool
   pub may_admit : Bool
   pub admitted : Bool
-  -- the file that it is bound to, where that is still there
+  -- it made its file, or dropped it
+  pub acted : Bool
+  -- a file of the name of its call is there
+  pub name_taken : Bool
+  -- the least free slot, and the least number that no file ever had
+  pub free_slot : Option ℕ
+  pub new_serial : Serial
+  -- the file that it is bound to, where that is still there, and its slot
   pub file : Option Serial
+  pub slot : Slot
   -- the bytes that it has put or got, and the sum of those that it got
   pub moved : ℕ
   pub got : ℕ
@@ -99,7 +119,12 @@ client_state w h p = record {
   entered = is_entered h p.0;
   may_admit = admits w h p.0;
   admitted = is_admitted h p.0;
+  acted = has_acted h p.0;
+  name_taken = is_name_taken w h (call_of w h p.0);
+  free_slot = free_slot (live_files w h);
+  new_serial = next_serial w h;
   file = working_file w h p.0;
+  slot = slot_of_some w h (working_file w h p.0);
   moved = moved h p.0;
   got = got h p.0;
   piece = state_left w h p (working_file w h p.0);
@@ -140,6 +165,8 @@ abbrev pub next_of_put : PieceState → ℕ → Option Event
 next_of_put s fill =
     s.read_badly ⇒ Some (Ret s.by reply.ReadFault)
     ∣ s.loading ⇒ None
+    ∣ s.in_mapped_run ⇒ None
+    ∣ s.without_space ⇒ Some (Ret s.by (reply.NoSpace s.moved))
     ∣ (not s.unsettled && s.crowded) ⇒ None
     ∣ s.held ⇒ Some (put_of s fill)
     ∣ s.full ⇒ evict_of s.by s.victim
@@ -168,16 +195,50 @@ next_of_write c fill = elim c.piece [ None ↦ Some (Ret c.by reply.Done) | Some
 abbrev pub next_of_read : ClientState → Option Event
 next_of_read c = elim c.piece [ None ↦ Some (Ret c.by (reply.Count c.moved c.got)) | Some s ↦ next_of_get s ]
 
+-- no file reaches beyond this size: it has at most 1,008 pages
+abbrev pub most_bytes : ℕ
+most_bytes = 4128768
+
+-- a write beyond the size of any file is refused
+abbrev pub next_of_fitting : ClientState → ℕ → ℕ → Option Event
+next_of_fitting c end fill =
+    nat_lt most_bytes end ⇒ Some (Ret c.by reply.TooBig)
+    ∣ next_of_write c fill
+
 -- what comes next in an admitted call whose file is there
-abbrev pub next_on_file : ClientState → Call → Option Event
-next_on_file c (call.Write name off len fill) = next_of_write c fill
-next_on_file c (call.Read name off len) = next_of_read c
-next_on_file c _ = None
+abbrev pub next_on_file : ClientState → Call → Serial → Option Event
+next_on_file c (call.Write name off len fill) serial = next_of_fitting c (off + len) fill
+next_on_file c (call.Read name off len) serial = next_of_read c
+next_on_file c (call.Unlink name) serial = Some (Drop c.by c.slot serial)
+next_on_file c _ serial = None
+
+-- what comes next in an admitted call that works on a file
+abbrev pub next_of_bound : ClientState → Call → Option Event
+next_of_bound c call =
+    elim c.file [ None ↦ Some (Ret c.by reply.NoFile) | Some serial ↦ next_on_file c call serial ]
+
+-- what comes next in an admitted creat that made no file: it makes one where its name and a slot are free
+abbrev pub make_in : ClientState → Option ℕ → Option Event
+make_in c None = Some (Ret c.by reply.NoSlot)
+make_in c (Some slot) = Some (Make c.by (record { 0 = slot }) c.new_serial)
+
+abbrev pub next_of_creat : ClientState → Option Event
+next_of_creat c =
+    c.acted ⇒ Some (Ret c.by reply.Done)
+    ∣ c.name_taken ⇒ Some (Ret c.by reply.Exists)
+    ∣ make_in c c.free_slot
+
+-- what comes next in an admitted unlink: it drops its file
+abbrev pub next_of_unlink : ClientState → Call → Option Event
+next_of_unlink c call =
+    c.acted ⇒ Some (Ret c.by reply.Done)
+    ∣ next_of_bound c call
 
 -- what comes next in an admitted call
 abbrev pub next_of_admitted : ClientState → Call → Option Event
-next_of_admitted c call =
-    elim c.file [ None ↦ Some (Ret c.by reply.NoFile) | Some serial ↦ next_on_file c call ]
+next_of_admitted c (call.Creat name) = next_of_creat c
+next_of_admitted c (call.Unlink name) = next_of_unlink c (call.Unlink name)
+next_of_admitted c call = next_of_bound c call
 
 abbrev pub next_of_call : ClientState → Call → Option Event
 next_of_call c call =

@@ -12,6 +12,7 @@ use Rattle.split_types.specs.History.{◌▹◌, adds}
 use Rattle.split_types.specs.Hooks.{covers}
 use Rattle.split_types.specs.Workloads.{first_block}
 use Rattle.split_types.specs.Requests.{unfinished}
+use Rattle.split_types.specs.Files.{is_live}
 use Rattle.split_types.specs.Pages.{is_dirty}
 use Rattle.split_types.specs.Reads.{is_read_of, is_loading}
 use Rattle.split_types.specs.HeldPages.{is_unsettled}
@@ -30,7 +31,7 @@ pub record IsCarried (w : Workload) (h : List Event) (r : Request) (x : ℕ) (by
   pub written : IsTrue (writes r x)
   pub bytes_are : carried w before r (x - r.first) ≡ bytes
 
--- what is known of page g of a file, whose block is x
+-- what is known of page g of a file that is there, whose block is x
 pub record IsOnDisk (w : Workload) (h : List Event) (s : Serial) (g x : ℕ) : Type 0 where
   -- where the page is neither dirty nor busy its block holds its bytes
   pub clean : IsFalse (is_unsettled w h (Page s g)) → disk_block w h x ≡ page_bytes w h s g
@@ -43,11 +44,11 @@ pub record IsOnDisk (w : Workload) (h : List Event) (s : Serial) (g x : ℕ) : T
   pub found : (k : ℕ) (id : ReqId) → IsLegal w (h ▹ Done k id true) → IsTrue (is_read_of h id (Page s g))
       → disk_block w h x ≡ page_bytes w h s g
 
--- in every history that an accepted workload may have: what is known of each page that has a block; a block that no
--- page has keeps what it held at the start; each block of data is whole
+-- in every history that an accepted workload may have: what is known of each page that has a block and whose file is
+-- there; a block that no page of any file ever had keeps what it held at the start; each block of data is whole
 pub record CleanPagesAreOnDisk : Type 0 where
   pub pages : (w : Workload) (h : List Event) (s : Serial) (g x : ℕ) → IsAccepted w → IsLegal w h
-      → mapped_block w h s.0 g ≡ Some x → IsOnDisk w h s g x
+      → IsTrue (is_live w h s.0) → mapped_block w h s.0 g ≡ Some x → IsOnDisk w h s g x
   pub others : (w : Workload) (h : List Event) (x : ℕ) → IsAccepted w → IsLegal w h
       → ((s : Serial) (g : ℕ) → mapped_block w h s.0 g ≡ Some x → ⊥) → disk_block w h x ≡ start_block w x
   pub whole : (w : Workload) (h : List Event) (x : ℕ) → IsAccepted w → IsLegal w h → first_block w ≤ x

@@ -120,6 +120,13 @@ is_reserved w h b = is_dirty w h b && has_no_block w h b
 abbrev pub reserved_pages : Workload → List Event → List Buf
 reserved_pages w h = filter (is_reserved w h) (known_pages h)
 
+-- the page has no block and none is promised to it, and every free block is promised to some page
+abbrev pub is_without_space : Workload → List Event → Buf → Bool
+is_without_space w h b =
+    has_no_block w h b
+    && not (is_reserved w h b)
+    && nat_le (length (free_blocks w h)) (length (reserved_pages w h))
+
 -- the page is one of a run whose blocks writeback has mapped, and whose request it hasn't added yet
 abbrev pub is_in_mapped_run : List Event → Buf → Bool
 is_in_mapped_run h b = by_service (service h) where

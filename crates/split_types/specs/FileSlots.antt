@@ -2,6 +2,7 @@
 use Rattle.std.specs.Prelude.{ℕ, ◌+◌, ◌==◌, List, [], length, map, slice_get, nat_lt, option_map, unwrap_or, true, false, Option, Some, None, if◌then◌else◌}
 use Rattle.std.specs.List.{range_with_len}
 use Rattle.split_types.specs.declared.ids.Serial.{Serial}
+use Rattle.split_types.specs.declared.ids.Slot.{Slot}
 use Rattle.split_types.specs.declared.buf.Buf.{Buf}
 use Rattle.split_types.specs.declared.call.Call.{Call}
 use Rattle.split_types.specs.declared.workload.Workload.{Workload}
@@ -20,6 +21,17 @@ file_in_slot w [] k = if nat_lt k (length w.files) then Some (record { 0 = k }) 
 file_in_slot w (h ▹ Make by slot serial) k = if slot.0 == k then Some serial else file_in_slot w h k
 file_in_slot w (h ▹ Drop by slot serial) k = if slot.0 == k then None else file_in_slot w h k
 file_in_slot w (h ▹ e) k = file_in_slot w h k
+
+-- the slot of a file: of a preset file that of its number, else that of its make
+abbrev pub slot_of : Workload → List Event → Serial → Slot
+slot_of w [] s = record { 0 = s.0 }
+slot_of w (h ▹ Make by slot serial) s = elim (serial.0 == s.0) [ true ↦ slot | false ↦ slot_of w h s ]
+slot_of w (h ▹ e) s = slot_of w h s
+
+-- the slot of a file, if there is one
+abbrev pub slot_of_some : Workload → List Event → Option Serial → Slot
+slot_of_some w h None = record { 0 = 0 }
+slot_of_some w h (Some s) = slot_of w h s
 
 -- the name that a call, if there is one, names
 abbrev pub name_of_some : Option Call → List ℕ

@@ -1,5 +1,5 @@
 -- The files of a history: which are there, which has a name, and which one a call works on.
-use Rattle.std.specs.Prelude.{ℕ, ◌==◌, List, [], nat_lt, length, option_map, Bool, false, not, ◌&&◌, ◌||◌, Option, Some, None, if◌then◌else◌}
+use Rattle.std.specs.Prelude.{ℕ, ◌==◌, List, [], nat_lt, length, option_map, is_some, Bool, false, not, ◌&&◌, ◌||◌, Option, Some, None, if◌then◌else◌}
 use Rattle.std.specs.Str.{bytes_eq}
 use Rattle.split_types.specs.declared.ids.Serial.{Serial}
 use Rattle.split_types.specs.declared.call.Call.{Call}
@@ -35,6 +35,11 @@ live_named w (h ▹ Make by slot serial) name =
     if is_named (call_of w h by.0) name then Some serial else live_named w h name
 live_named w (h ▹ Drop by slot serial) name = without serial (live_named w h name)
 live_named w (h ▹ e) name = live_named w h name
+
+-- a file of the name of the call, if there is one, is there
+abbrev pub is_name_taken : Workload → List Event → Option Call → Bool
+is_name_taken w h None = false
+is_name_taken w h (Some c) = is_some (live_named w h (name_of c))
 
 -- the file that a call works on where it is admitted after h: the one of its name that is there; a creat works on none
 abbrev pub file_for : Workload → List Event → Option Call → Option Serial

@@ -9,7 +9,8 @@ use Rattle.split_types.specs.History.{◌▹◌}
 use Rattle.split_types.specs.Hooks.{maker}
 use Rattle.split_types.specs.Requests.{queued, in_flight}
 use Rattle.split_types.specs.Pages.{is_dirty}
-use Rattle.split_types.specs.Workloads.{processes, calls_of, all_pages, bound}
+use Rattle.split_types.specs.HeldPages.{known_pages}
+use Rattle.split_types.specs.Workloads.{processes, calls_of, bound}
 use Rattle.split_types.specs.Calls.{returned}
 use Rattle.split_types.specs.Next.{next}
 
@@ -28,7 +29,7 @@ is_drained w h =
     list_all (is_finished w h) (processes w)
     && length (queued h) == 0
     && length (in_flight h) == 0
-    && not (list_any (is_dirty w h) (all_pages w))
+    && not (list_any (is_dirty w h) (known_pages h))
 
 -- the next event of the first of these actors that has one
 abbrev pub first_next : Workload → List Event → List Actor → Option Event

@@ -26,6 +26,7 @@ pub mod Pages
 pub mod Schedulers
 pub mod Clients
 pub mod Writeback
+pub mod Serving
 pub mod Next
 pub mod Legal
 pub mod Draining
@@ -45,6 +46,8 @@ pub mod FileSizes
 pub mod FileMaps
 pub mod FileSlots
 pub mod ServedRuns
+pub mod FilesInOrder
+pub mod MapsInOrder
 pub mod Failures
 pub mod PageBytes
 pub mod DiskBytes
@@ -54,4 +57,7 @@ pub mod CacheExamples
 pub mod WorkedCaches
 pub mod WorkedFiles
 pub mod CachedHistories
+pub mod FileExamples
+pub mod FiledHistories
+pub mod FiledStates
 pub mod PagesInCache

@@ -11,7 +11,7 @@ use Rattle.split_types.specs.Requests.{in_flight}
 use Rattle.split_types.specs.CostAndClock.{head, cost_at}
 use Rattle.split_types.specs.Schedulers.{pick}
 use Rattle.split_types.specs.Clients.{client_state, next_of_client}
-use Rattle.split_types.specs.Writeback.{next_of_writeback}
+use Rattle.split_types.specs.Serving.{next_of_writeback}
 
 -- the send of a request, with its cost
 abbrev pub send_of : List Event → Request → Event

@@ -1,6 +1,6 @@
 -- How the pages of a cache change with each event: which are held, loading, dirty or busy, for which process each is
 -- pinned, when each was touched last, and how many there are.
-use Rattle.std.specs.Prelude.{◌≡◌, ℕ, ◌+◌, ◌<◌, ◌≤◌, List, [], length, slice_get, find, count_by, Bool, not, ◌&&◌, ◌||◌, is_some, Option, Some, None, if◌then◌else◌, IsTrue, IsFalse}
+use Rattle.std.specs.Prelude.{◌≡◌, ℕ, ◌+◌, ◌==◌, ◌<◌, ◌≤◌, List, [], length, slice_get, find, count_by, Bool, false, not, ◌&&◌, ◌||◌, is_some, Option, Some, None, if◌then◌else◌, IsTrue, IsFalse}
 use Rattle.split_types.specs.declared.ids.Pid.{Pid}
 use Rattle.split_types.specs.declared.ids.Serial.{Serial}
 use Rattle.split_types.specs.declared.buf.Buf.{Buf}
@@ -10,13 +10,14 @@ use Rattle.split_types.specs.declared.request.ReqKind.TheVariants.{Pages}
 use Rattle.split_types.specs.declared.request.Request.{Request}
 use Rattle.split_types.specs.declared.workload.Workload.{Workload}
 use Rattle.split_types.specs.declared.event.Event.{Event}
-use Rattle.split_types.specs.declared.event.Event.TheVariants.{Put, Get, Ret, Add, Done, Evict}
+use Rattle.split_types.specs.declared.event.Event.TheVariants.{Put, Get, Drop, Ret, Add, Done, Evict}
 use Rattle.split_types.specs.History.{◌▹◌}
 use Rattle.split_types.specs.Hooks.{same_buf, covers}
 use Rattle.split_types.specs.Requests.{is_write, requests}
-use Rattle.split_types.specs.Workloads.{pages_in, page_block}
+use Rattle.split_types.specs.FileMaps.{mapped_block}
+use Rattle.split_types.specs.FilesInOrder.{all_files}
 use Rattle.split_types.specs.Parents.{pages_of}
-use Rattle.split_types.specs.Pages.{is_dirty, is_busy}
+use Rattle.split_types.specs.Pages.{is_live_page, is_dirty, is_busy}
 use Rattle.split_types.specs.Reads.{reads, reads_for, outstanding, is_loading, other_than, reader_of}
 use Rattle.split_types.specs.HeldPages.{is_placed, is_held, is_unsettled, held_pages, unsettled_pages}
 use Rattle.split_types.specs.Victims.{last_touch, pinned_by, is_evictable}
@@ -24,6 +25,11 @@ use Rattle.split_types.specs.Accepted.{IsAccepted}
 use Rattle.split_types.specs.Legal.{IsLegal}
 
 -- ---- held, loading, dirty, busy
+-- the buffer is a page of this file
+abbrev pub is_page_of : Serial → Buf → Bool
+is_page_of s (Page t g) = s.0 == t.0
+is_page_of s _ = false
+
 -- after h the page is held, loading, dirty and busy where these say so
 pub record PageIs (w : Workload) (h : List Event) (b : Buf) (held loading dirty busy : Bool) : Type 0 where
   pub held_is : is_held w h b ≡ held
@@ -33,7 +39,8 @@ pub record PageIs (w : Workload) (h : List Event) (b : Buf) (held loading dirty 
 
 -- what an event makes of the page b. A put holds and dirties its page; a request that reads b loads and holds it; one
 -- that writes b takes it, so that it is busy and no longer dirty; a request that is done leaves b neither loading nor
--- busy for it; an eviction lets its page go. All else stays
+-- busy for it; an eviction lets its page go; a drop lets all pages of its file go, which are neither loading, dirty nor
+-- busy then. All else stays
 abbrev pub PageAfter : Workload → List Event → Event → Buf → Type 0
 PageAfter w h (Put by s g from to fill) b =
     PageIs w (h ▹ Put by s g from to fill) b (same_buf b (Page s g) || is_held w h b) (is_loading w h b)
@@ -48,6 +55,9 @@ PageAfter w h (Done k id ok) b =
 PageAfter w h (Evict by s g) b =
     PageIs w (h ▹ Evict by s g) b (not (same_buf b (Page s g)) && is_held w h b) (is_loading w h b) (is_dirty w h b)
     (is_busy w h b)
+PageAfter w h (Drop by slot s) b =
+    PageIs w (h ▹ Drop by slot s) b (not (is_page_of s b) && is_held w h b) (not (is_page_of s b) && is_loading w h b)
+    (not (is_page_of s b) && is_dirty w h b) (not (is_page_of s b) && is_busy w h b)
 PageAfter w h e b = PageIs w (h ▹ e) b (is_held w h b) (is_loading w h b) (is_dirty w h b) (is_busy w h b)
 
 -- each event of a legal history does so to each page
@@ -73,25 +83,25 @@ pub record IsOnlyLoading (w : Workload) (h : List Event) (b : Buf) : Type 0 wher
   pub clean : IsFalse (is_dirty w h b)
   pub idle : IsFalse (is_busy w h b)
 
--- the request reads one page, this one of a preset file, from its block
-pub record ReadsBlock (w : Workload) (r : Request) (b : Buf) : Type 0 where
+-- the request reads one page, this one of a file that is there or was, from its block
+pub record ReadsBlock (w : Workload) (h : List Event) (r : Request) (b : Buf) : Type 0 where
   pub serial : Serial
   pub page : ℕ
   pub is : b ≡ Page serial page
-  pub file : serial.0 < length w.files
-  pub within : page < pages_in w serial.0
+  pub file : serial.0 < all_files w h
+  pub within : page < 1008
   pub one : r.n ≡ 1
-  pub place : r.first ≡ page_block w serial.0 page
+  pub place : mapped_block w h serial.0 page ≡ Some r.first
 
 -- a page that is loading is nothing else; no two requests that aren't done read one page; and what a request reads is
--- a page of a preset file
+-- a page that a file may have
 pub record LoadingPages : Type 0 where
   pub only : (w : Workload) (h : List Event) (b : Buf) → IsAccepted w → IsLegal w h → IsTrue (is_loading w h b)
       → IsOnlyLoading w h b
   pub once : (w : Workload) (h : List Event) (b : Buf) → IsAccepted w → IsLegal w h
       → count_by (λ r. reads r b) (outstanding h) ≤ 1
   pub blocks : (w : Workload) (h : List Event) (i : ℕ) (r : Request) (b : Buf) → IsAccepted w → IsLegal w h
-      → slice_get (requests h) i ≡ Some r → IsTrue (reads r b) → ReadsBlock w r b
+      → slice_get (requests h) i ≡ Some r → IsTrue (reads r b) → ReadsBlock w h r b
 
 -- ---- the process that a page waits for
 -- the process that waits for a page that is loading: its call added the read of the page that isn't done, and didn't
@@ -99,18 +109,20 @@ pub record LoadingPages : Type 0 where
 abbrev pub waits_for : List Event → Buf → Option Pid
 waits_for h b = elim (find (λ r. reads r b) (outstanding h)) [ None ↦ None | Some r ↦ reader_of h r.id ]
 
--- the process for which the page stays in the cache: the one that waits for it while it is loading, and from then on
--- the one that pins it
+-- the process for which the page stays in the cache while its file is there: the one that waits for it while it is
+-- loading, and from then on the one that pins it
 abbrev pub pin_of : Workload → List Event → Buf → Option Pid
-pin_of w h b = if is_loading w h b then waits_for h b else pinned_by h b
+pin_of w h b = if is_live_page w h b then (if is_loading w h b then waits_for h b else pinned_by h b) else None
 
 -- what an event makes of that process: a put, get or return of a process frees the page that was kept for it; a request
--- that reads b keeps it for its process. All else stays
+-- that reads b keeps it for its process; a drop frees all pages of its file. All else stays
 abbrev pub PinAfter : Workload → List Event → Event → Buf → Type 0
 PinAfter w h (Put by s g from to fill) b = pin_of w (h ▹ Put by s g from to fill) b ≡ other_than by (pin_of w h b)
 PinAfter w h (Get by s g from to sum) b = pin_of w (h ▹ Get by s g from to sum) b ≡ other_than by (pin_of w h b)
 PinAfter w h (Ret by reply) b = pin_of w (h ▹ Ret by reply) b ≡ other_than by (pin_of w h b)
 PinAfter w h (Add by r) b = pin_of w (h ▹ Add by r) b ≡ (if reads r b then reads_for r else pin_of w h b)
+PinAfter w h (Drop by slot s) b =
+    pin_of w (h ▹ Drop by slot s) b ≡ (if is_page_of s b then None else pin_of w h b)
 PinAfter w h e b = pin_of w (h ▹ e) b ≡ pin_of w h b
 
 -- p is a process of the workload, and the page is held
@@ -173,17 +185,24 @@ pub record CountsAre (w : Workload) (h : List Event) (held unsettled : ℕ) : Ty
   pub held_is : length (held_pages w h) ≡ held
   pub unsettled_is : length (unsettled_pages w h) ≡ unsettled
 
--- from h to l, a request that is done leaves as many pages held; those that it wrote are settled, but where they are
--- dirty again
+-- from h to l, a request that is done leaves as many pages held; those that it wrote are settled, where their file is
+-- still there, but for those that are dirty again
 pub record CountsDone (w : Workload) (h l : List Event) (r : Request) : Type 0 where
   pub held_is : length (held_pages w l) ≡ length (held_pages w h)
-  pub settled_is : length (unsettled_pages w l) + count_by (λ b. not (is_dirty w h b)) (pages_written r)
+  pub settled_is : length (unsettled_pages w l)
+      + count_by (λ b. is_live_page w h b && not (is_dirty w h b)) (pages_written r)
       ≡ length (unsettled_pages w h)
 
 -- from h to l, one page is let go
 pub record CountsEvict (w : Workload) (h l : List Event) : Type 0 where
   pub held_is : length (held_pages w l) + 1 ≡ length (held_pages w h)
   pub unsettled_is : length (unsettled_pages w l) ≡ length (unsettled_pages w h)
+
+-- from h to l, the pages of a file are let go
+pub record CountsDrop (w : Workload) (h l : List Event) (s : Serial) : Type 0 where
+  pub held_is : length (held_pages w l) + count_by (is_page_of s) (held_pages w h) ≡ length (held_pages w h)
+  pub unsettled_is : length (unsettled_pages w l) + count_by (is_page_of s) (unsettled_pages w h)
+      ≡ length (unsettled_pages w h)
 
 -- what an event makes of these counts
 abbrev pub CountsAfter : Workload → List Event → Event → Type 0
@@ -197,6 +216,7 @@ CountsAfter w h (Add by r) =
 CountsAfter w h (Done k id ok) =
     (r : Request) → slice_get (requests h) id.0 ≡ Some r → CountsDone w h (h ▹ Done k id ok) r
 CountsAfter w h (Evict by s g) = CountsEvict w h (h ▹ Evict by s g)
+CountsAfter w h (Drop by slot s) = CountsDrop w h (h ▹ Drop by slot s) s
 CountsAfter w h e = CountsAre w (h ▹ e) (length (held_pages w h)) (length (unsettled_pages w h))
 
 -- each event of a legal history does so

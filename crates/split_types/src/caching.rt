@@ -58,8 +58,10 @@ pub fn bytes_by_byte()
     ensures { BytesByByte }
 {}
 
-/// The block of a page that is neither dirty nor busy holds its bytes, and what writes a page that is busy and not
-/// dirty carries them, so a read finds them; the blocks of no page stay as they were.
+/// Of each page that has a block and whose file is there: where it is neither dirty nor busy its block holds its bytes;
+/// where it is busy and not dirty the requests that write it carry them; while it is loading it is neither, so that its
+/// read finds its bytes. A block that no page of any file ever had keeps what it held at the start, and each block of
+/// data is whole.
 pub fn clean_pages_are_on_disk()
     ensures { CleanPagesAreOnDisk }
 {}

@@ -3,9 +3,10 @@
 //! The types are those of a workload, of the events of its history, and of the facts that a report
 //! shows. The definitions stand in `specs/`, one file each: they look backwards through a history,
 //! which is a list with the newest event first. The contracts of the accessors say which buffers an
-//! event dirties and frees, and which actor makes it. The functions of `laws`, `draining` and `caching` do
-//! nothing: their contracts say what the definitions give in worked histories, what they are in terms of
-//! places, that draining ends, and that the pages of a cache are counted, evicted and filled as they should be.
+//! event dirties and frees, and which actor makes it. The functions of `laws`, `draining`, `caching` and
+//! `filing` do nothing: their contracts say what the definitions give in worked histories, what they are in terms of
+//! places, that draining ends, that the pages of a cache are counted, evicted and filled as they should be, and that no
+//! two files have a name, a slot or a block in common.
 //!
 //! All crates but those for streams and for structures over places (`outside`, `fixed_places`) stand on this one.
 #![tactic(auto)]
@@ -17,6 +18,7 @@ mod call;
 mod draining;
 mod event;
 mod facts;
+mod filing;
 mod hooks;
 mod ids;
 mod laws;
@@ -35,6 +37,7 @@ pub use call::{Call, Reply};
 pub use draining::{drains_whole, never_stuck, plays_legal, stays_below};
 pub use event::Event;
 pub use facts::{AccountFact, Facts, ReqFact, ReqState};
+pub use filing::{filed_histories, filed_states, files_are_in_order, maps_are_in_order};
 pub use hooks::{actor_of, dirties, frees};
 pub use ids::{Pid, ReqId, Serial, Slot, Txn};
 pub use laws::{

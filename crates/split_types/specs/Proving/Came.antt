@@ -1,33 +1,38 @@
 -- Only proofs need this: which row of which table an event came from, and what is known there.
-use Rattle.std.specs.Prelude.{◌≡◌, ℕ, ◌<◌, ◌≤◌, List, length, find, slice_get, Bool, true, false, not, ◌||◌, is_none, Option, Some, None, IsTrue, IsFalse}
+use Rattle.std.specs.Prelude.{◌≡◌, ℕ, ◌+◌, ◌<◌, ◌≤◌, List, length, slice_get, Bool, true, false, not, ◌||◌, is_none, Option, Some, None, IsTrue, IsFalse}
 use Rattle.split_types.specs.declared.ids.Pid.{Pid}
 use Rattle.split_types.specs.declared.ids.Serial.{Serial}
 use Rattle.split_types.specs.declared.buf.Buf.{Buf}
 use Rattle.split_types.specs.declared.buf.Buf.TheVariants.{Page}
 use Rattle.split_types.specs.declared.call.Call.{Call}
-use Rattle.split_types.specs.declared.call.Call.TheVariants.{Write, Read}
+use Rattle.split_types.specs.declared.call.Call.TheVariants.{Creat, Write, Read, Unlink}
 use Rattle.split_types.specs.declared.call.Reply.TheVariants as reply
 use Rattle.split_types.specs.declared.actor.Actor.TheVariants.{Client, Wb}
+use Rattle.split_types.specs.declared.request.Service.TheVariants.{Serving}
 use Rattle.split_types.specs.declared.request.ReqKind.TheVariants as kind
 use Rattle.split_types.specs.declared.request.Request.{Request}
 use Rattle.split_types.specs.declared.request.Run.{Run}
 use Rattle.split_types.specs.declared.workload.Workload.{Workload}
 use Rattle.split_types.specs.declared.event.Event.{Event}
-use Rattle.split_types.specs.declared.event.Event.TheVariants.{Enter, Admit, Put, Get, Ret, Serve, Add, Done, Evict}
+use Rattle.split_types.specs.declared.event.Event.TheVariants.{Enter, Admit, Make, Put, Get, Drop, Ret, Serve, Skip, Add, Done, Evict}
 use Rattle.split_types.specs.History.{adds}
 use Rattle.split_types.specs.Requests.{in_flight}
-use Rattle.split_types.specs.Calls.{returned, is_entered, is_admitted, moved, call_of}
-use Rattle.split_types.specs.Pages.{is_ready}
-use Rattle.split_types.specs.Workloads.{all_pages}
+use Rattle.split_types.specs.Calls.{returned, is_entered, is_admitted, has_acted, moved, call_of}
+use Rattle.split_types.specs.Files.{is_live, is_name_taken}
 use Rattle.split_types.specs.Schedulers.{admits, pick}
 use Rattle.split_types.specs.Reads.{is_loading, is_read_badly}
 use Rattle.split_types.specs.HeldPages.{is_held, is_full, is_unsettled, is_crowded}
 use Rattle.split_types.specs.Victims.{victim}
-use Rattle.split_types.specs.FileSizes.{working_file}
-use Rattle.split_types.specs.FileMaps.{mapped_block}
+use Rattle.split_types.specs.FileSizes.{disk_size_of, working_file}
+use Rattle.split_types.specs.FileMaps.{mapped_block, is_without_space, is_in_mapped_run}
+use Rattle.split_types.specs.LiveFiles.{free_slot}
+use Rattle.split_types.specs.FileSlots.{live_files, next_serial, slot_of}
+use Rattle.split_types.specs.ServedRuns.{FreeRun, run_to_serve, free_run}
 use Rattle.split_types.specs.PageBytes.{sum_of_bytes}
 use Rattle.split_types.specs.Pieces.{Piece, is_whole, piece_left, got}
-use Rattle.split_types.specs.Writeback.{service, served_run, run_length, request_for}
+use Rattle.split_types.specs.Clients.{most_bytes}
+use Rattle.split_types.specs.Writeback.{service, served_run}
+use Rattle.split_types.specs.Serving.{service_state, bytes_up_to, map_of, request_for}
 use Rattle.split_types.specs.Next.{send_of}
 
 -- p is a process of the workload, and this is its call under way, or its next call
@@ -47,18 +52,33 @@ pub record IsWorking (w : Workload) (h : List Event) (p : Pid) (c : Call) (seria
   pub admitted : IsAdmitted w h p c
   pub file : working_file w h p.0 ≡ Some serial
 
+-- a write ends within the size that a file may have
+abbrev pub IsFitting : Call → Type 0
+IsFitting (Write name off len fill) = off + len ≤ most_bytes
+IsFitting _ = Unit {0}
+
+-- a call that makes a file or drops one
+abbrev pub IsOfNames : Call → Type 0
+IsOfNames (Creat name) = Unit {0}
+IsOfNames (Unlink name) = Unit {0}
+IsOfNames _ = ⊥
+
 -- this piece is the first that is left of it; its page isn't loading, and no read of it that the call added was done
 -- badly
 pub record IsAtPiece (w : Workload) (h : List Event) (p : Pid) (c : Call) (serial : Serial) (piece : Piece) : Type 0
   where
     pub working : IsWorking w h p c serial
+    pub fits : IsFitting c
     pub left : piece_left w h p.0 ≡ Some piece
     pub well : IsFalse (is_read_badly h p.0 (Page serial piece.page))
     pub there : IsFalse (is_loading w h (Page serial piece.page))
 
--- a write may put this piece: its page is dirty or busy, or the stack isn't crowded; the page is held, or a place is
--- free, and the piece is a whole page or its page has no block
+-- a write may put this piece: its page isn't in a run that is mapped and not added, and has a block or gets the promise
+-- of one; the page is dirty or busy, or the stack isn't crowded; the page is held, or a place is free, and the piece is
+-- a whole page or its page has no block
 pub record MayPut (w : Workload) (h : List Event) (b : Buf) (piece : Piece) (block : Option ℕ) : Type 0 where
+  pub out : IsFalse (is_in_mapped_run h b)
+  pub space : IsFalse (is_without_space w h b)
   pub settles : IsTrue (is_unsettled w h b || not (is_crowded w h))
   pub room : IsTrue (is_held w h b || not (is_full w h))
   pub known : IsTrue (is_held w h b || (is_whole piece || is_none block))
@@ -82,8 +102,22 @@ pub data Came (w : Workload) (h : List Event) : Event → Type 0 where
   came_enter : (p : Pid) (c : Call) → HasCall w h p c → IsFalse (is_entered h p.0) → Came w h (Enter p (returned h p.0))
   came_admit : (p : Pid) (c : Call) → HasCall w h p c → IsTrue (is_entered h p.0) → IsFalse (is_admitted h p.0)
       → IsTrue (admits w h p.0) → Came w h (Admit p)
+  came_changed : (p : Pid) (c : Call) → IsAdmitted w h p c → IsOfNames c → IsTrue (has_acted h p.0)
+      → Came w h (Ret p reply.Done)
+  came_exists : (p : Pid) (name : List ℕ) → IsAdmitted w h p (Creat name) → IsFalse (has_acted h p.0)
+      → IsTrue (is_name_taken w h (call_of w h p.0)) → Came w h (Ret p reply.Exists)
+  came_no_slot : (p : Pid) (name : List ℕ) → IsAdmitted w h p (Creat name) → IsFalse (has_acted h p.0)
+      → IsFalse (is_name_taken w h (call_of w h p.0)) → free_slot (live_files w h) ≡ None
+      → Came w h (Ret p reply.NoSlot)
+  came_make : (p : Pid) (name : List ℕ) (slot : ℕ) → IsAdmitted w h p (Creat name) → IsFalse (has_acted h p.0)
+      → IsFalse (is_name_taken w h (call_of w h p.0)) → free_slot (live_files w h) ≡ Some slot
+      → Came w h (Make p (record { 0 = slot }) (next_serial w h))
+  came_drop : (p : Pid) (name : List ℕ) (serial : Serial) → IsWorking w h p (Unlink name) serial
+      → IsFalse (has_acted h p.0) → Came w h (Drop p (slot_of w h serial) serial)
   came_no_file : (p : Pid) (c : Call) → IsAdmitted w h p c → working_file w h p.0 ≡ None
       → Came w h (Ret p reply.NoFile)
+  came_too_big : (p : Pid) (name : List ℕ) (off len fill : ℕ) (serial : Serial)
+      → IsWorking w h p (Write name off len fill) serial → most_bytes < off + len → Came w h (Ret p reply.TooBig)
   came_wrote : (p : Pid) (name : List ℕ) (off len fill : ℕ) (serial : Serial)
       → IsWorking w h p (Write name off len fill) serial → piece_left w h p.0 ≡ None → Came w h (Ret p reply.Done)
   came_read : (p : Pid) (name : List ℕ) (off len : ℕ) (serial : Serial) → IsWorking w h p (Read name off len) serial
@@ -91,6 +125,11 @@ pub data Came (w : Workload) (h : List Event) : Event → Type 0 where
   came_fault : (p : Pid) (c : Call) (serial : Serial) (piece : Piece) → IsWorking w h p c serial
       → piece_left w h p.0 ≡ Some piece → IsTrue (is_read_badly h p.0 (Page serial piece.page))
       → Came w h (Ret p reply.ReadFault)
+  came_no_space : (p : Pid) (name : List ℕ) (off len fill : ℕ) (serial : Serial) (piece : Piece)
+      → IsAtPiece w h p (Write name off len fill) serial piece
+      → IsFalse (is_in_mapped_run h (Page serial piece.page))
+      → IsTrue (is_without_space w h (Page serial piece.page))
+      → Came w h (Ret p (reply.NoSpace (moved h p.0)))
   came_put : (p : Pid) (name : List ℕ) (off len fill : ℕ) (serial : Serial) (piece : Piece)
       → IsAtPiece w h p (Write name off len fill) serial piece
       → MayPut w h (Page serial piece.page) piece (mapped_block w h serial.0 piece.page)
@@ -109,9 +148,19 @@ pub data Came (w : Workload) (h : List Event) : Event → Type 0 where
       → IsAbsent w h (Page serial piece.page) false → (block : ℕ)
       → mapped_block w h serial.0 piece.page ≡ Some block
       → Came w h (Add (Client p) (read_request (adds h) p serial piece.page block))
-  came_serve : (s : Serial) (g : ℕ) → served_run (service h) ≡ None
-      → find (is_ready w h) (all_pages w) ≡ Some (Page s g)
-      → Came w h (Serve s g (run_length w h s g))
-  came_add : (run : Run) → served_run (service h) ≡ Some run → Came w h (Add Wb (request_for w (adds h) run))
+  came_serve : (run : Run) → served_run (service h) ≡ None → run_to_serve w h ≡ Some run
+      → Came w h (Serve run.serial run.page run.n)
+  came_skip : (run : Run) → served_run (service h) ≡ Some run → IsFalse (is_live w h run.serial.0) → Came w h Skip
+  came_map : (run : Run) (free : FreeRun) → service h ≡ Serving run → IsTrue (is_live w h run.serial.0)
+      → mapped_block w h run.serial.0 run.page ≡ None → free_run w h run.n ≡ Some free
+      → Came w h (map_of (service_state w h run) free.n free.first true)
+  came_grow : (run : Run) (block : ℕ) → service h ≡ Serving run → IsTrue (is_live w h run.serial.0)
+      → mapped_block w h run.serial.0 run.page ≡ Some block
+      → disk_size_of w h run.serial.0 < bytes_up_to (service_state w h run) run.n
+      → Came w h (map_of (service_state w h run) run.n block false)
+  came_add : (run : Run) (block : ℕ) → served_run (service h) ≡ Some run → IsTrue (is_live w h run.serial.0)
+      → mapped_block w h run.serial.0 run.page ≡ Some block
+      → (service h ≡ Serving run → bytes_up_to (service_state w h run) run.n ≤ disk_size_of w h run.serial.0)
+      → Came w h (Add Wb (request_for (adds h) run block))
   came_send : (r : Request) → length (in_flight h) < w.depth → pick w h ≡ Some r → Came w h (send_of h r)
   came_done : (k : ℕ) (r : Request) → slice_get (in_flight h) k ≡ Some r → Came w h (Done k r.id true)

@@ -1,40 +1,32 @@
 -- Only proofs need this: what an accepted workload asks of its calls, and what their pieces are.
-use Rattle.std.specs.Prelude.{◌≡◌, ℕ, ◌+◌, ◌-◌, ◌*◌, ◌<◌, ◌≤◌, List, length, Some}
+use Rattle.std.specs.Prelude.{◌≡◌, ℕ, ◌+◌, ◌-◌, ◌<◌, ◌≤◌, List, length, IsTrue}
 use Rattle.split_types.specs.declared.ids.Pid.{Pid}
 use Rattle.split_types.specs.declared.ids.Serial.{Serial}
 use Rattle.split_types.specs.declared.call.Call.{Call}
 use Rattle.split_types.specs.declared.workload.Workload.{Workload}
-use Rattle.split_types.specs.Workloads.{file_named, pages_in}
+use Rattle.split_types.specs.declared.event.Event.{Event}
+use Rattle.split_types.specs.Files.{is_live}
 use Rattle.split_types.specs.IsWorkload.{IsAsked}
 use Rattle.split_types.specs.Accepted.{IsBuiltCall}
 use Rattle.split_types.specs.Pieces.{Piece, first_byte, bytes_to_move, piece_at}
 
 -- the call is one that may be asked for, and is built
-pub record IsTaken (w : Workload) (c : Call) : Type 0 where
+pub record IsTaken (c : Call) : Type 0 where
   pub asked : IsAsked c
-  pub built : IsBuiltCall w c
-
--- the bytes from off on, len of them, lie in the pages of the preset file of this serial
-pub record WritesAt (w : Workload) (name : List ℕ) (off len fill serial : ℕ) : Type 0 where
-  pub named : file_named w.files name ≡ Some serial
-  pub file : serial < length w.files
-  pub least : 1 ≤ len
-  pub most : len ≤ 4128768
-  pub fill_most : fill ≤ 255
-  pub within : off + len ≤ 4096 * pages_in w serial
+  pub built : IsBuiltCall c
 
 -- the piece is the first that is left of a call that moved so many bytes
 pub record IsFirstLeft (c : Call) (size moved : ℕ) (piece : Piece) : Type 0 where
   pub some : moved < bytes_to_move c size
   pub is : piece ≡ piece_at (first_byte c + moved) (bytes_to_move c size - moved)
 
--- a process of the workload puts some bytes of a page of a preset file
-pub record PutIn (w : Workload) (by : Pid) (s : Serial) (g from to fill : ℕ) : Type 0 where
+-- a process of the workload puts some bytes of a page that a file may have
+pub record PutIn (w : Workload) (h : List Event) (by : Pid) (s : Serial) (g from to fill : ℕ) : Type 0 where
   pub by_least : 1 ≤ by.0
   pub by_most : by.0 ≤ length w.procs
   pub procs_most : length w.procs ≤ 32
-  pub file : s.0 < length w.files
-  pub page : g < pages_in w s.0
+  pub file : IsTrue (is_live w h s.0)
+  pub page : g < 1008
   pub some : from < to
   pub to_most : to ≤ 4096
   pub fill_most : fill ≤ 255
