@@ -1,5 +1,5 @@
 -- The processes of a set one by one: those from a number on, where a word has no mark from there on, and where it has.
-use Rattle.std.proofs.Common.{◌≡◌, ℕ, zero, suc, ◌+◌, ◌-◌, ◌*◌, ◌/◌, ◌%◌, ◌^◌, ◌<◌, ◌≤◌, Bool, true, false, List, [], ◌∷◌, ◌++◌, refl, ap, sym, ◌∙◌, arith, get_or, inl, inr, length}
+use Rattle.std.proofs.Common.{◌≡◌, ℕ, zero, suc, ◌+◌, ◌-◌, ◌*◌, ◌/◌, ◌%◌, ◌^◌, ◌<◌, ◌≤◌, Bool, true, false, List, [], ◌∷◌, ◌++◌, refl, ap, sym, ◌∙◌, arith, get_or, inl, inr}
 use Rattle.std.specs.Prelude.{◌==◌, filter}
 use Rattle.std.specs.Int.{bit_at, trailing_zeros, w64}
 use Rattle.std.specs.List.{range_with_len}
@@ -7,8 +7,9 @@ use Rattle.std.proofs.lemmas.Bool.{cases_lt}
 use Rattle.std.proofs.lemmas.List.Elements.{filter-append}
 use Rattle.std.proofs.lemmas.Nat.{pow-add}
 use Rattle.std.proofs.lemmas.Nat.Bits.{bit_at-trailing_zeros, bit_at_above, bit_at-zero}
-use Rattle.std.proofs.Math.Nat.{div-div-eq-div-mul, div-le_self}
-use Rattle.cause_set.specs.Marks.{is_marked, marked_from}
+use Rattle.std.proofs.Math.Nat.{div-div-eq-div-mul, div-le_self, div-eq_of_lt}
+use Rattle.std.proofs.Math.Pow.{pow_mono}
+use Rattle.cause_set.specs.Marks.{is_marked, marked_from, shifted_word, IsRest}
 use Rattle.cause_set.proofs.Counts.{range-split}
 
 -- a range where nothing passes
@@ -54,9 +55,6 @@ marked_from-word words a some within none =
     ∙ ap (λ w. bit_at w (q - a) == 1) none ∙ ap (λ d. d == 1) (bit_at-zero (q - a)))
 
 -- the next number with a mark is where the shifted word has its lowest bit
-abbrev pub shifted_word : List ℕ → ℕ → ℕ
-shifted_word words a = get_or words ((a - 1) / 64) 0 / 2 ^ ((a - 1) % 64)
-
 abbrev pub next_mark : List ℕ → ℕ → ℕ
 next_mark words a = a + trailing_zeros w64 (shifted_word words a)
 
@@ -94,3 +92,33 @@ marked_from-next words a some last fits any =
             bit_at_above (get_or words ((a - 1) / 64) 0) 64 ((a - 1) % 64 + z) fits above,
           ))
     ]
+
+-- what is shifted out whole leaves 0
+short : (w k : ℕ) → w < 2 ^ 64 → 0 < w / 2 ^ k → k < 64
+short w k fits any =
+    elim (cases_lt k 64) [
+      | inl l ↦ l
+      | inr above ↦
+          let less : w < 2 ^ k = omega (arith, fits, pow_mono above) in
+          let none : w / 2 ^ k ≡ 0 = div-eq_of_lt less in
+          absurd (omega (arith, any, none))
+    ]
+
+-- a shifted word, shifted past some bits and one more
+past : (w p z : ℕ) → w / 2 ^ p / 2 / 2 ^ z ≡ w / 2 ^ (p + z + 1)
+past w p z =
+    let sum : p + 1 + z ≡ p + z + 1 = omega arith in
+    ap (λ n. n / 2 ^ z) (div-div-eq-div-mul w (2 ^ p) 2 ∙ ap (λ d. w / d) (sym (pow-add 2 p 1)))
+    ∙ div-div-eq-div-mul w (2 ^ (p + 1)) (2 ^ z) ∙ ap (λ d. w / d) (sym (pow-add 2 (p + 1) z))
+    ∙ ap (λ n. w / 2 ^ n) sum
+
+-- what is left of the word after its next mark
+pub rest-next : (words : List ℕ) (a z : ℕ) → 1 ≤ a → a ≤ 256 → get_or words ((a - 1) / 64) 0 < 2 ^ 64
+    → IsRest words (a + z + 1) (shifted_word words a / 2 / 2 ^ z)
+rest-next words a z some last fits any =
+    let w = get_or words ((a - 1) / 64) 0 in
+    let moved : shifted_word words a / 2 / 2 ^ z ≡ w / 2 ^ ((a - 1) % 64 + z + 1) = past w ((a - 1) % 64) z in
+    let low : (a - 1) % 64 + z + 1 < 64 = short w ((a - 1) % 64 + z + 1) fits (omega (arith, moved, any)) in
+    let word : (a + z + 1 - 1) / 64 ≡ (a - 1) / 64 = omega arith in
+    let place : (a + z + 1 - 1) % 64 ≡ (a - 1) % 64 + z + 1 = omega arith in
+    (omega arith, moved ∙ rw (word, place) refl)

@@ -1,11 +1,11 @@
 -- Laws of tags, for the crates that hold them: what is held of a list of places, and what a call that is
 -- lent a store leaves as it was.
-use Rattle.std.proofs.Common.{◌≡◌, ◌≢◌, ℕ, zero, suc, ◌+◌, ◌<◌, ◌≤◌, List, [], ◌∷◌, ◌++◌, map, length, get_or, set, replicate, Option, Some, None, refl, ap, sym, ◌∙◌, arith}
+use Rattle.std.proofs.Common.{◌≡◌, ◌≢◌, ℕ, zero, suc, ◌+◌, ◌<◌, ◌≤◌, List, [], ◌∷◌, ◌++◌, length, get_or, set, replicate, Option, Some, None, refl, ap, ◌∙◌, arith}
 use Rattle.std.proofs.lemmas.Bool.Decides.{nat_tests}
-use Rattle.std.proofs.lemmas.List.{get_or-set_other, get_or_past}
-use Rattle.std.proofs.lemmas.List.Sums.{sum_by-cons, sum_by-append, sum_by-set, get_or-le-sum_by}
+use Rattle.std.proofs.lemmas.List.{get_or-set_other}
+use Rattle.std.proofs.lemmas.List.Sums.{sum_by-cons, sum_by-append, sum_by-set}
 use Rattle.std.specs.Option.{option_map}
-use Rattle.cause_set.specs.Tags.{Tags, Moved, no_use, one_use, plus, same, numbers, use_in, held, Covers, set_in, set_at, sets_of}
+use Rattle.cause_set.specs.Tags.{Tags, Moved, no_use, one_use, same, numbers, use_in, held, Covers, set_in, set_at, sets_of}
 
 -- ---- uses
 

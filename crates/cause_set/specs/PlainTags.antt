@@ -1,5 +1,5 @@
 -- What the plain store knows of its tags.
-use Rattle.std.specs.Prelude.{ℕ, ◌-◌, if◌then◌else◌, List, [], is_some, unwrap_or}
+use Rattle.std.specs.Prelude.{◌-◌, if◌then◌else◌, [], is_some, unwrap_or}
 use Rattle.slab.specs.Slab.{get, slab_len}
 use Rattle.cause_set.specs.declared.plain.PlainTags.{PlainTags}
 use Rattle.cause_set.specs.Tags.{Tags}

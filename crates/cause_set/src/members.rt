@@ -1,7 +1,7 @@
 //! The processes of a set, one by one.
 ghost use Rattle.std.specs.Prelude.{◌≡◌, ◌+◌, ◌<◌, ◌≤◌, ◌/◌, ◌^◌, [], ◌∷◌, IfNone, IfSome};
 ghost use Rattle.std.specs.Iterator.{YieldsFirstBy, item_count};
-ghost use Rattle.cause_set.specs.Marks.{marked, marked_from};
+ghost use Rattle.cause_set.specs.Marks.{marked, marked_from, IsRest, IsWord};
 
 use crate::causes::LAST;
 use split_types::Pid;
@@ -16,23 +16,41 @@ fn marks_from(word: u64, bit: u32) -> u64
     word >> bit
 }
 
-/// The first process from a number on that has its mark.
-fn first_from(marks: &[u64; 4], from: u32) -> Option<u32>
-    requires { 1 ≤ from }
+/// The first word from a number on that has a mark, and the number that its lowest bit stands for. `rest` is what is
+/// left of the number's word, where it is known.
+fn word_from(marks: &[u64; 4], from: u32, rest: u64) -> Option<(u32, u64)>
+    requires from { 1 ≤ from }
+    requires rest { IsRest marks.now from rest }
     ensures none { IfNone result (marked_from marks.now from ≡ []) }
-    ensures found { IfSome result (λ p. marked_from marks.now from ≡ p ∷ marked_from marks.now (p + 1)) }
-    ensures last { IfSome result (λ p. p ≤ 256) }
+    ensures found { IfSome result (λ r. IsWord marks.now from r.0 r.1) }
 {
+    if rest != 0 {
+        return Some((from, rest));
+    }
     let mut number = from;
     while number <= LAST {
         let place = number - 1;
         let word = marks_from(marks[(place / 64) as usize], place % 64);
         if word != 0 {
-            return Some(number + word.trailing_zeros());
+            return Some((number, word));
         }
         number = (place / 64 + 1) * 64 + 1;
     }
     None
+}
+
+/// The first process from a number on that has its mark, and what is left of its word after it.
+fn first_from(marks: &[u64; 4], from: u32, rest: u64) -> Option<(u32, u64)>
+    requires from { 1 ≤ from }
+    requires rest { IsRest marks.now from rest }
+    ensures none { IfNone result (marked_from marks.now from ≡ []) }
+    ensures found { IfSome result (λ r. marked_from marks.now from ≡ r.0 ∷ marked_from marks.now (r.0 + 1)) }
+    ensures last { IfSome result (λ r. r.0 ≤ 256) }
+    ensures rest { IfSome result (λ r. IsRest marks.now (r.0 + 1) r.1) }
+{
+    let (number, word) = word_from(marks, from, rest)?;
+    let zeros = word.trailing_zeros();
+    Some((number + zeros, marks_from(word / 2, zeros)))
 }
 
 /// The processes of a set, rising, seen as the numbers of those that are left.
@@ -40,17 +58,18 @@ fn first_from(marks: &[u64; 4], from: u32) -> Option<u32>
 pub struct Members {
     marks: [u64; 4],
     from: u32,
+    rest: u64,
 }
 
 impl Model for Members {
     ghost use Rattle.std.specs.Prelude.{ℕ, List, ◌≤◌};
-    ghost use Rattle.cause_set.specs.Marks.{marked_from};
+    ghost use Rattle.cause_set.specs.Marks.{marked_from, IsRest};
 
     ghost Value = { List ℕ };
 
     ghost view = { λ members. marked_from members.marks members.from };
 
-    ghost invariant = { λ members. (1 ≤ members.from) × (members.from ≤ 257) };
+    ghost invariant = { λ members. (1 ≤ members.from) × (members.from ≤ 257) × IsRest members.marks members.from members.rest };
 }
 
 impl Members {
@@ -58,7 +77,11 @@ impl Members {
     pub(crate) fn new(marks: [u64; 4]) -> Members
         ensures { result ≡ marked marks }
     {
-        Members { marks, from: 1 }
+        Members {
+            marks,
+            from: 1,
+            rest: 0,
+        }
     }
 }
 
@@ -70,8 +93,9 @@ impl Iterator for Members {
     ghost remaining = { item_count (λ rest. rest) };
 
     fn next(&mut self) -> Option<Pid> {
-        let number = first_from(&self.marks, self.from)?;
+        let (number, rest) = first_from(&self.marks, self.from, self.rest)?;
         self.from = number + 1;
+        self.rest = rest;
         Some(Pid(number))
     }
 }

@@ -1,5 +1,5 @@
 -- A mask of the lowest bits leaves the remainder.
-use Rattle.std.proofs.Common.{◌≡◌, ◌*◌, ◌%◌, ◌^◌, min, refl, arith}
+use Rattle.std.proofs.Common.{◌≡◌, ◌*◌, ◌%◌, ◌^◌, refl, arith}
 use Rattle.std.proofs.lemmas.Nat.{one_shl, and_mask}
 use Rattle.cause_set.proofs.causes.ones_below.Goals as goal
 

@@ -1,24 +1,27 @@
--- What the word shows from the number on.
-use Rattle.std.proofs.Common.{◌≡◌, ◌+◌, ◌-◌, ◌/◌, ◌≤◌, ◌∷◌, sym, refl, ◌∙◌, arith}
-use Rattle.cause_set.specs.Marks.{marked_from}
-use Rattle.cause_set.proofs.Listing.{Next, marked_from-word, marked_from-next}
+-- The lowest bit of the word stands for the process, and the bits above it are left.
+use Rattle.std.proofs.Common.{◌-◌, ◌/◌, ◌∙◌, arith}
+use Rattle.std.specs.Int.{trailing_zeros, w64}
+use Rattle.cause_set.specs.Marks.{shifted_word, IsWord}
+use Rattle.cause_set.proofs.Listing.{Next, marked_from-next, rest-next}
 use Rattle.cause_set.proofs.members.first_from.Goals as goal
 
-pub loop-number-preserved : goal.loop-number-preserved
-loop-number-preserved c = (
-  omega arith,
-  c.loop-number.invariant.1
-      ∙ marked_from-word c.args.marks.now c.loop-number.number c.loop-number.invariant.0 c.loop-number-test.true
-      (sym c.marks_from-word.ensures.value ∙ c.if-word-ne0.false),
-)
+is : (c : goal.After-marks_from) → IsWord c.args.marks.now c.args.from c.in_ok-number.number c.in_ok-number.word
+is c = c.in_ok-number.ensures.found
 
-next : (c : goal.Then-word-ne0) → Next c.args.marks.now c.loop-number.number
+next : (c : goal.After-marks_from) → Next c.args.marks.now c.in_ok-number.number
 next c =
-    marked_from-next c.args.marks.now c.loop-number.number c.loop-number.invariant.0 c.loop-number-test.true
-    c.marks_from-word.ensures.fits (omega (arith, c.marks_from-word.ensures.value, c.if-word-ne0.true))
+    marked_from-next c.args.marks.now c.in_ok-number.number (is c).some (is c).within
+    (c.fits-marks ((c.in_ok-number.number - 1) / 64)) (omega (arith, (is c).value, (is c).any))
 
-pub returns-then-word-ne0-clause-found : goal.returns-then-word-ne0-clause-found
-returns-then-word-ne0-clause-found c = rw c.marks_from-word.ensures.value (c.loop-number.invariant.1 ∙ (next c).found)
+pub returns-clause-found : goal.returns-clause-found
+returns-clause-found c = rw (is c).value ((is c).same ∙ (next c).found)
 
-pub returns-then-word-ne0-clause-last : goal.returns-then-word-ne0-clause-last
-returns-then-word-ne0-clause-last c = rw c.marks_from-word.ensures.value (next c).within
+pub returns-clause-last : goal.returns-clause-last
+returns-clause-last c = rw (is c).value (next c).within
+
+pub returns-clause-rest : goal.returns-clause-rest
+returns-clause-rest c =
+    rw (c.marks_from.ensures.value, (is c).value)
+    (rest-next c.args.marks.now c.in_ok-number.number
+    (trailing_zeros w64 (shifted_word c.args.marks.now c.in_ok-number.number)) (is c).some (is c).within
+    (c.fits-marks ((c.in_ok-number.number - 1) / 64)))

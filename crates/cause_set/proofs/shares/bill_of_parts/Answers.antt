@@ -1,5 +1,5 @@
 -- One set more.
-use Rattle.std.proofs.Common.{◌≡◌, ◌+◌, length, ap, sym, ◌∙◌, arith}
+use Rattle.std.proofs.Common.{◌≡◌, ◌+◌, length, ap, ◌∙◌, arith}
 use Rattle.split_types.specs.Share.{share, share_of}
 use Rattle.cause_set.proofs.Parts.{first_parts, first_parts-le, first_parts-more, first_parts-all}
 use Rattle.cause_set.proofs.shares.bill_of_parts.Goals as goal
