@@ -1,4 +1,5 @@
 pub mod Filled
+pub mod FillLaws
 pub mod SharedLaws
 pub mod RunLaws
 pub mod WriteLaws

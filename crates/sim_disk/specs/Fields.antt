@@ -1,5 +1,5 @@
 -- How the fields of a disk make up what contracts see of it.
-use Rattle.std.specs.Prelude.{◌≡◌, ℕ, ◌+◌, ◌%◌, ◌^◌, ◌<◌, ◌≤◌, List, length, vec_len, vec_capacity, All, AllPairs, count_by}
+use Rattle.std.specs.Prelude.{◌≡◌, ℕ, ◌+◌, ◌*◌, ◌%◌, ◌^◌, ◌<◌, ◌≤◌, min, List, length, vec_len, vec_capacity, All, AllPairs, count_by}
 use Rattle.split_types.specs.declared.ids.ReqId.{ReqId}
 use Rattle.sim_disk.specs.Medium.{InFlight, Medium, count_of, is_of, AreApart}
 use Rattle.sim_disk.specs.declared.disk.Disk.TheInside.{Inside}
@@ -18,9 +18,11 @@ pub record AreInFlight (size : ℕ) (writes : List InFlight) : Type 0 where
   pub apart : AllPairs AreApart writes
   pub once : (id : ReqId) → count_by (is_of id) writes ≤ 1
 
--- there is the room that the writes in flight need, and that was promised
+-- there is the room that the writes in flight need, and that was promised; memory is ready for the shared blocks
+-- that they may need, as far as these aren't made
 pub record IsKept (d : Inside) : Type 0 where
   pub writes : AreInFlight (length d.blocks.blocks) d.writes.items
   pub few : length d.blocks.blocks < 2 ^ 32
   pub places : vec_len d.writes + d.spare ≤ vec_capacity d.writes
   pub room : vec_len d.writes + d.spare ≤ d.blocks.room
+  pub ready : min (16 * (vec_len d.writes + d.spare)) d.blocks.left ≤ d.blocks.ready

@@ -1,4 +1,5 @@
 pub mod Bytes
+pub mod Load
 pub mod Sheet
 pub mod Medium
 pub mod Crash

@@ -1,8 +1,10 @@
 //! What the blocks of a disk hold.
-ghost use Rattle.std.specs.Prelude.{◌≡◌, ℕ, ◌+◌, ◌*◌, ◌<◌, ◌≤◌, true, false, length, All, IfOk, OnOk, OnErr};
-ghost use Rattle.sim_disk.specs.Bytes.{filled, block_of, block_at};
+ghost use Rattle.std.specs.Prelude.{◌≡◌, ℕ, ◌+◌, ◌*◌, ◌/◌, ◌<◌, ◌≤◌, min, length, All, IfOk, IfSome, OnOk, OnErr};
+ghost use Rattle.sim_disk.specs.Bytes.{filled, spread, block_of, block_at};
+ghost use Rattle.sim_disk.specs.Load.{bytes_of};
 ghost use Rattle.sim_disk.specs.Sheet.{Overwrites};
 
+use crate::load::Load;
 use crate::runs::{Place, Run, settle};
 use crate::shared::Shared;
 use slab::Slab;
@@ -33,9 +35,11 @@ impl Model for Blocks {
     ghost view = { λ b. record {
       blocks = map (content b.runs) b.places.items;
       room = b.runs.capacity - slab_len b.runs;
+      left = b.shared.left;
+      ready = b.shared.ready;
     } };
 
-    ghost invariant = { λ b. AreHeld b.places.items b.runs b.shared };
+    ghost invariant = { λ b. AreHeld b.places.items b.runs b.shared.blocks };
 }
 
 /// One block with this byte at each place.
@@ -83,20 +87,39 @@ impl Blocks {
         }
     }
 
+    /// The byte that a block has at each place, where it is one of the shared blocks.
+    pub(crate) fn fill_of(&self, b: u32) -> Option<u8>
+        requires { b < length self.now.blocks }
+        ensures { IfSome result (λ byte. block_at self.now.blocks b ≡ filled byte) }
+    {
+        match self.places[b as usize] {
+            Place::Filled(byte) => Some(byte),
+            Place::Within { .. } => None,
+        }
+    }
+
     /// Makes room for `n` more runs of bytes.
-    pub(crate) fn room(&mut self, n: usize) -> Result<(), AllocError>
+    fn reserve(&mut self, n: usize) -> Result<(), AllocError>
         ensures blocks { self.new.blocks ≡ self.old.blocks }
-        ensures ok { OnOk result (n ≤ self.new.room) }
         ensures room { self.old.room ≤ self.new.room }
+        ensures left { self.new.left ≡ self.old.left }
+        ensures ready { self.new.ready ≡ self.old.ready }
+        ensures ok { OnOk result (n ≤ self.new.room) }
     {
         self.runs.reserve(n)
     }
 
-    /// Makes what blocks like these can share, as far as there is memory.
-    pub(crate) fn prepare(&mut self, alloc: Global, bytes: &[u8])
-        ensures { self.new ≡ self.old }
+    /// Makes room for what `n` more writes hold.
+    pub(crate) fn room(&mut self, n: usize) -> Result<(), AllocError>
+        ensures blocks { self.new.blocks ≡ self.old.blocks }
+        ensures room { self.old.room ≤ self.new.room }
+        ensures left { self.new.left ≡ self.old.left }
+        ensures ready { self.old.ready ≤ self.new.ready }
+        ensures runs { OnOk result (n ≤ self.new.room) }
+        ensures fills { OnOk result (min (16 * n) self.new.left ≤ self.new.ready) }
     {
-        self.shared.make_all(alloc, bytes)
+        self.reserve(n)?;
+        self.shared.room(n)
     }
 
     /// Lets the `n` blocks from `first` on hold this byte at each place.
@@ -111,6 +134,8 @@ impl Blocks {
         ensures blocks { OnOk result (Overwrites self.old.blocks self.new.blocks first n (λ i. filled byte)) }
         ensures err { OnErr result (self.new.blocks ≡ self.old.blocks) }
         ensures room { self.old.room ≤ self.new.room }
+        ensures left { self.new.left ≤ self.old.left }
+        ensures ready { self.new.ready ≡ self.old.ready }
     {
         self.shared.make(alloc, byte)?;
         for i in 0..n {
@@ -124,28 +149,26 @@ impl Blocks {
         Ok(())
     }
 
-    /// Lets the `n` blocks from `first` on hold these bytes, where each of them is one of the shared blocks, and
-    /// tells whether it did.
-    fn hold_shared(&mut self, first: u32, n: u32, bytes: &[u8]) -> bool
-        requires within { first + n ≤ length self.old.blocks }
-        requires whole { 4096 * n ≤ length bytes.now }
-        ensures yes { result ≡ true → Overwrites self.old.blocks self.new.blocks first n (block_of bytes.now) }
-        ensures no { result ≡ false → self.new.blocks ≡ self.old.blocks }
+    /// Lets the blocks from `first` on each hold its fill at each place.
+    fn hold_filled(&mut self, first: u32, fills: &[u8])
+        requires few { length fills.now ≤ 16 }
+        requires within { first + length fills.now ≤ length self.old.blocks }
+        requires ready { min 16 self.old.left ≤ self.old.ready }
+        ensures bytes { Overwrites self.old.blocks self.new.blocks first (length fills.now)
+            (block_of (spread fills.now)) }
         ensures room { self.old.room ≤ self.new.room }
+        ensures ready { (n : ℕ) → min (16 + n) self.old.left ≤ self.old.ready → min n self.new.left ≤ self.new.ready }
     {
-        if !self.shared.has_all(bytes, n) {
-            return false;
-        }
-        for i in 0..n {
-            let byte = bytes[i as usize * BLOCK];
+        for at in 0..fills.len() {
+            let fill = fills[at];
+            self.shared.make_ready(fill);
             settle(
                 &mut self.places,
                 &mut self.runs,
-                (first + i) as usize,
-                Place::Filled(byte),
+                first as usize + at,
+                Place::Filled(fill),
             );
         }
-        true
     }
 
     /// Lets the `n` blocks from `first` on stand in a run of these bytes.
@@ -155,6 +178,8 @@ impl Blocks {
         requires room { 0 < self.old.room }
         ensures bytes { Overwrites self.old.blocks self.new.blocks first n (block_of bytes.items) }
         ensures room { self.old.room ≤ self.new.room + 1 }
+        ensures left { self.new.left ≡ self.old.left }
+        ensures ready { self.new.ready ≡ self.old.ready }
     {
         let run = self.runs.insert_reserved(Run { bytes, uses: 0 });
         for i in 0..n {
@@ -167,16 +192,19 @@ impl Blocks {
         }
     }
 
-    /// Lets the `n` blocks from `first` on hold these bytes.
-    pub(crate) fn hold(&mut self, first: u32, n: u32, bytes: Vec<u8>)
+    /// Lets the `n` blocks from `first` on hold what a write brings to them.
+    pub(crate) fn hold(&mut self, first: u32, n: u32, load: Load)
         requires within { first + n ≤ length self.old.blocks }
-        requires whole { 4096 * n ≤ length bytes.items }
+        requires count { n ≡ length (bytes_of load) / 4096 }
         requires room { 0 < self.old.room }
-        ensures bytes { Overwrites self.old.blocks self.new.blocks first n (block_of bytes.items) }
+        requires ready { min 16 self.old.left ≤ self.old.ready }
+        ensures bytes { Overwrites self.old.blocks self.new.blocks first n (block_of (bytes_of load)) }
         ensures room { self.old.room ≤ self.new.room + 1 }
+        ensures ready { (n : ℕ) → min (16 + n) self.old.left ≤ self.old.ready → min n self.new.left ≤ self.new.ready }
     {
-        if !self.hold_shared(first, n, &bytes) {
-            self.hold_run(first, n, bytes);
+        match load {
+            Load::Filled(fills) => self.hold_filled(first, fills.as_slice()),
+            Load::Bytes(bytes) => self.hold_run(first, n, bytes),
         }
     }
 
@@ -191,9 +219,9 @@ impl Blocks {
         requires whole { length bytes.now ≡ 4096 }
         ensures bytes { OnOk result (Overwrites self.old.blocks self.new.blocks b 1 (λ i. bytes.now)) }
     {
-        self.room(1)?;
+        self.reserve(1)?;
         let bytes = Vec::from_slice(alloc, bytes)?;
-        self.hold(b, 1, bytes);
+        self.hold_run(b, 1, bytes);
         Ok(())
     }
 
@@ -203,7 +231,7 @@ impl Blocks {
     {
         let places = Vec::from_slice(alloc, &self.places)?;
         let runs = self.runs.clone()?;
-        let shared = self.shared.copy()?;
+        let shared = self.shared.copy(alloc)?;
         Ok(Blocks {
             places,
             runs,

@@ -1,12 +1,15 @@
 //! The disk.
 ghost use Rattle.std.specs.Prelude.{◌≡◌, ℕ, ◌+◌, ◌%◌, ◌/◌, ◌<◌, ◌≤◌, [], ◌∷◌, ◌++◌, length, filter, not, true, false, All, IfOk, IfSome, IsOk, IsSome, None, OnOk, OnErr};
-ghost use Rattle.sim_disk.specs.Bytes.{filled, block_of, block_at};
+ghost use Rattle.sim_disk.specs.Bytes.{filled, spread, block_of, block_at};
+ghost use Rattle.sim_disk.specs.Fields.{IsWithin};
 ghost use Rattle.sim_disk.specs.Sheet.{Overwrites};
 ghost use Rattle.sim_disk.specs.Medium.{AreApart, count_of, is_of, write_of};
 
 mod crash;
 
-use crate::blocks::{BLOCK, Blocks};
+use crate::blocks::Blocks;
+use crate::fills::Fills;
+use crate::load::Load;
 use crate::write::{Write, take};
 pub use crash::Fate;
 use split_types::ReqId;
@@ -65,6 +68,14 @@ impl Disk {
         self.blocks.read(block)
     }
 
+    /// The byte that a block has at each place, where it is known that one is.
+    pub fn fill_of(&self, block: u32) -> Option<u8>
+        requires { block < length self.now.blocks }
+        ensures { IfSome result (λ byte. block_at self.now.blocks block ≡ filled byte) }
+    {
+        self.blocks.fill_of(block)
+    }
+
     /// Makes room for `n` more writes.
     pub fn room(&mut self, n: u32) -> Result<(), AllocError>
         ensures ok { OnOk result (n ≤ self.new.spare) }
@@ -92,6 +103,23 @@ impl Disk {
         self.blocks.fill(alloc, first, n, byte)
     }
 
+    /// Lets a write be in flight.
+    fn send(&mut self, w: Write) -> Result<(), AllocError>
+        requires within { IsWithin (length self.old.blocks) w }
+        requires apart { All (AreApart w) self.old.writes }
+        requires other { write_of self.old.writes w.id ≡ None }
+        ensures writes { OnOk result (self.new.writes ≡ self.old.writes ++ w ∷ []) }
+        ensures blocks { OnOk result (self.new.blocks ≡ self.old.blocks) }
+        ensures spare { OnOk result (self.old.spare ≤ self.new.spare + 1) }
+        ensures err { OnErr result (self.new ≡ self.old) }
+        ensures succeeds { 0 < self.old.spare → IsOk result }
+    {
+        self.room(1)?;
+        self.writes.push_reserved(w);
+        self.spare -= 1;
+        Ok(())
+    }
+
     /// Starts a write of these bytes, which are whole blocks, from block `first` on. It succeeds where there is
     /// room.
     pub fn start(&mut self, id: ReqId, first: u32, bytes: Vec<u8>) -> Result<(), AllocError>
@@ -106,11 +134,23 @@ impl Disk {
         ensures err { OnErr result (self.new ≡ self.old) }
         ensures succeeds { 0 < self.old.spare → IsOk result }
     {
-        self.room(1)?;
-        self.blocks.prepare(*bytes.allocator(), &bytes);
-        self.writes.push_reserved(Write::new(id, first, bytes));
-        self.spare -= 1;
-        Ok(())
+        self.send(Write::new(id, first, Load::Bytes(bytes)))
+    }
+
+    /// Starts a write of as many whole blocks as there are fills, from block `first` on; each has its fill at each
+    /// place. It takes no memory for bytes. It succeeds where there is room.
+    pub fn start_filled(&mut self, id: ReqId, first: u32, fills: Fills) -> Result<(), AllocError>
+        requires within { first + length fills ≤ length self.old.blocks }
+        requires apart { All (AreApart record { id = id; first = first; bytes = spread fills }) self.old.writes }
+        requires other { write_of self.old.writes id ≡ None }
+        ensures writes { OnOk result (self.new.writes ≡
+            self.old.writes ++ record { id = id; first = first; bytes = spread fills } ∷ []) }
+        ensures blocks { OnOk result (self.new.blocks ≡ self.old.blocks) }
+        ensures spare { OnOk result (self.old.spare ≤ self.new.spare + 1) }
+        ensures err { OnErr result (self.new ≡ self.old) }
+        ensures succeeds { 0 < self.old.spare → IsOk result }
+    {
+        self.send(Write::new(id, first, Load::Filled(fills)))
     }
 
     /// Ends the write of this request, which is in flight: its blocks hold its bytes where it ends well, and
@@ -123,10 +163,11 @@ impl Disk {
         ensures bad { ok ≡ false → self.new.blocks ≡ self.old.blocks }
         ensures spare { self.new.spare ≡ self.old.spare }
     {
-        let (first, bytes) = take(&mut self.writes, id).into_parts();
+        let w = take(&mut self.writes, id);
         if ok {
-            let n = (bytes.len() / BLOCK) as u32;
-            self.blocks.hold(first, n, bytes);
+            let (first, load) = w.into_parts();
+            let n = load.count() as u32;
+            self.blocks.hold(first, n, load);
         }
     }
 }

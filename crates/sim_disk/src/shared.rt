@@ -1,7 +1,7 @@
 //! Blocks that have one byte at each place.
-ghost use Rattle.std.specs.Prelude.{◌≡◌, ℕ, ◌*◌, ◌<◌, ◌≤◌, true, length, replicate, slice_index_or, IfOk, OnOk};
+ghost use Rattle.std.specs.Prelude.{◌≡◌, ℕ, ◌+◌, ◌*◌, ◌≤◌, [], min, slice_index_or, vec_len, IfOk, OnOk};
 ghost use Rattle.sim_disk.specs.Bytes.{filled};
-ghost use Rattle.sim_disk.specs.Shared.{IsMade, IsShared};
+ghost use Rattle.sim_disk.specs.Shared.{IsMade};
 
 use crate::blocks::{BLOCK, filled_block};
 use std::alloc::{AllocError, Global};
@@ -10,42 +10,78 @@ use std::marker::Model;
 /// How many bytes there are.
 const BYTES: usize = 256;
 
-/// How many bytes of a block are looked at first where all are to be the same.
-const FEW: usize = 16;
+/// How many blocks a write of filled blocks has at most.
+const MOST: usize = 16;
+
+/// Memory for one block.
+#[derive(Drop)]
+struct Blank {
+    memory: Vec<u8>,
+}
+
+impl Model for Blank {
+    ghost use Rattle.std.specs.Prelude.{◌≡◌, ◌≤◌, [], vec_capacity};
+
+    ghost Value = { Unit {0} };
+
+    ghost view = { λ b. tt };
+
+    ghost invariant = { λ b. (b.memory.items ≡ []) × (4096 ≤ vec_capacity b.memory) };
+}
 
 /// For each byte the block that has it at each place, from when it was made on, and nothing before.
 #[derive(Drop)]
 pub(crate) struct Shared {
     blocks: Vec<Vec<u8>>,
+    // For how many bytes the block isn't made yet.
+    left: usize,
+    // Memory for blocks that are made later.
+    ready: Vec<Blank>,
 }
 
 impl Model for Shared {
-    ghost use Rattle.std.specs.Prelude.{ℕ, List, map};
-    ghost use Rattle.sim_disk.specs.Shared.{AreFilled};
+    ghost use Rattle.std.specs.Prelude.{map, vec_len};
+    ghost use Rattle.sim_disk.specs.Shared.{Stock, AreFilled};
 
-    ghost Value = { List (List ℕ) };
+    ghost Value = { Stock };
 
-    ghost view = { λ s. map (λ v. v.items) s.blocks.items };
+    ghost view = { λ s. record {
+      blocks = map (λ v. v.items) s.blocks.items;
+      left = s.left;
+      ready = vec_len s.ready;
+    } };
 
-    ghost invariant = { λ s. AreFilled (map (λ v. v.items) s.blocks.items) };
+    ghost invariant = { λ s. AreFilled (map (λ v. v.items) s.blocks.items) s.left };
 }
 
-/// Whether all bytes are this one. Where one of the first few isn't, no more are looked at.
-fn are_all(bytes: &[u8], byte: u8) -> bool
-    ensures { result ≡ true → bytes.now ≡ replicate (length bytes.now) byte }
-{
-    bytes.iter().take(FEW).all(|other| *other == byte) && are_same(bytes, byte)
-}
-
-/// Whether all bytes are this one; all are looked at.
-fn are_same(bytes: &[u8], byte: u8) -> bool
-    ensures { result ≡ true → bytes.now ≡ replicate (length bytes.now) byte }
-{
-    let mut same = true;
-    for other in bytes {
-        same &= *other == byte;
+impl Blank {
+    /// Memory for one block.
+    fn new(alloc: Global) -> Result<Blank, AllocError> {
+        Ok(Blank {
+            memory: Vec::with_capacity(alloc, BLOCK)?,
+        })
     }
-    same
+
+    /// The block with this byte at each place.
+    fn filled(self, byte: u8) -> Vec<u8>
+        ensures { result.items ≡ filled byte }
+    {
+        let mut memory = self.memory;
+        let _ = memory.resize(BLOCK, byte);
+        memory
+    }
+}
+
+/// Lets memory for at least `n` blocks be ready.
+fn stock_up(ready: &mut Vec<Blank>, n: usize) -> Result<(), AllocError>
+    ensures ok { OnOk result (n ≤ vec_len ready.new) }
+    ensures more { vec_len ready.old ≤ vec_len ready.new }
+{
+    let alloc = *ready.allocator();
+    for _ in ready.len()..n {
+        ready.push(Blank::new(alloc)?)?;
+    }
+    Ok(())
 }
 
 impl Shared {
@@ -55,70 +91,85 @@ impl Shared {
         for _ in 0..BYTES {
             blocks.push_reserved(Vec::new(alloc));
         }
-        Ok(Shared { blocks })
+        Ok(Shared {
+            blocks,
+            left: BYTES,
+            ready: Vec::new(alloc),
+        })
     }
 
     /// The block of a byte, which was made.
     pub(crate) fn of(&self, byte: u8) -> &[u8]
-        requires { IsMade self.now byte }
+        requires { IsMade self.now.blocks byte }
         ensures { result.now ≡ filled byte }
     {
         &self.blocks[byte as usize]
     }
 
+    /// Keeps the block of a byte, which wasn't made before.
+    fn put(&mut self, byte: u8, block: Vec<u8>)
+        requires none { slice_index_or self.old.blocks byte [] ≡ [] }
+        requires block { block.items ≡ filled byte }
+        ensures made { IsMade self.new.blocks byte }
+        ensures others { (other : ℕ) → IsMade self.old.blocks other → IsMade self.new.blocks other }
+        ensures left { self.new.left + 1 ≡ self.old.left }
+        ensures ready { self.new.ready ≡ self.old.ready }
+    {
+        self.blocks[byte as usize] = block;
+        self.left -= 1;
+    }
+
     /// Makes the block of a byte, unless it was made.
     pub(crate) fn make(&mut self, alloc: Global, byte: u8) -> Result<(), AllocError>
-        ensures made { OnOk result (IsMade self.new byte) }
-        ensures others { (other : ℕ) → IsMade self.old other → IsMade self.new other }
+        ensures made { OnOk result (IsMade self.new.blocks byte) }
+        ensures others { (other : ℕ) → IsMade self.old.blocks other → IsMade self.new.blocks other }
+        ensures left { self.new.left ≤ self.old.left }
+        ensures ready { self.new.ready ≡ self.old.ready }
     {
         if self.blocks[byte as usize].is_empty() {
-            self.blocks[byte as usize] = filled_block(alloc, byte)?;
+            let block = filled_block(alloc, byte)?;
+            self.put(byte, block);
         }
         Ok(())
     }
 
-    /// Makes the block of each byte that one of these blocks has at each place, as far as there is memory.
-    pub(crate) fn make_all(&mut self, alloc: Global, bytes: &[u8])
-        ensures { (other : ℕ) → IsMade self.old other → IsMade self.new other }
+    /// Makes the block of a byte, unless it was made, in memory that is ready where one isn't made.
+    pub(crate) fn make_ready(&mut self, byte: u8)
+        requires { min 1 self.old.left ≤ self.old.ready }
+        ensures made { IsMade self.new.blocks byte }
+        ensures others { (other : ℕ) → IsMade self.old.blocks other → IsMade self.new.blocks other }
+        ensures ready { (n : ℕ) → min (n + 1) self.old.left ≤ self.old.ready → min n self.new.left ≤ self.new.ready }
     {
-        for at in 0..bytes.len() / BLOCK {
-            let block = &bytes[at * BLOCK..at * BLOCK + BLOCK];
-            if self.blocks[block[0] as usize].is_empty() && are_all(block, block[0]) {
-                let _ = self.make(alloc, block[0]);
-            }
+        if self.blocks[byte as usize].is_empty() {
+            let blank = self.ready.pop().unwrap();
+            self.put(byte, blank.filled(byte));
         }
     }
 
-    /// Whether a block is one that was made.
-    fn has(&self, block: &[u8]) -> bool
-        requires { length block.now ≡ 4096 }
-        ensures made { result ≡ true → IsMade self.now (slice_index_or block.now 0 0) }
-        ensures same { result ≡ true → block.now ≡ filled (slice_index_or block.now 0 0) }
+    /// Lets memory be ready for the blocks that `n` writes of filled blocks may need.
+    pub(crate) fn room(&mut self, n: usize) -> Result<(), AllocError>
+        ensures blocks { self.new.blocks ≡ self.old.blocks }
+        ensures left { self.new.left ≡ self.old.left }
+        ensures ready { self.old.ready ≤ self.new.ready }
+        ensures ok { OnOk result (min (16 * n) self.new.left ≤ self.new.ready) }
     {
-        let byte = block[0];
-        !self.blocks[byte as usize].is_empty() && are_all(block, byte)
+        let blocks = if n < MOST { MOST * n } else { BYTES };
+        let wanted = if blocks < self.left {
+            blocks
+        } else {
+            self.left
+        };
+        stock_up(&mut self.ready, wanted)
     }
 
-    /// Whether each of the first `n` blocks is one that was made.
-    pub(crate) fn has_all(&self, bytes: &[u8], n: u32) -> bool
-        requires { 4096 * n ≤ length bytes.now }
-        ensures { result ≡ true → (i : ℕ) → i < n → IsShared self.now bytes.now i }
-    {
-        for at in 0..n as usize {
-            let block = &bytes[at * BLOCK..at * BLOCK + BLOCK];
-            if !self.has(block) {
-                return false;
-            }
-        }
-        true
-    }
-
-    /// The same blocks once more.
-    pub(crate) fn copy(&self) -> Result<Shared, AllocError>
-        ensures { IfOk result (λ s. s ≡ self.now) }
+    /// The same blocks once more, with no memory ready.
+    pub(crate) fn copy(&self, alloc: Global) -> Result<Shared, AllocError>
+        ensures { IfOk result (λ s. s.blocks ≡ self.now.blocks) }
     {
         Ok(Shared {
             blocks: self.blocks.clone()?,
+            left: self.left,
+            ready: Vec::new(alloc),
         })
     }
 }

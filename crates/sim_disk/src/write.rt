@@ -1,40 +1,45 @@
 //! Writes in flight.
-ghost use Rattle.std.specs.Prelude.{◌≡◌, ◌+◌, ◌^◌, ◌<◌, ◌≤◌, true, not, Some, IsSome, IsSomeAnd, slice_get, length, filter, find, option_copied, sum_by, count_by, vec_len, vec_capacity};
+ghost use Rattle.std.specs.Prelude.{◌≡◌, ◌+◌, ◌^◌, ◌<◌, ◌≤◌, true, not, Some, IsSome, IsSomeAnd, slice_get, length, filter, find, option_copied, sum_by, count_by, vec_len, vec_capacity, OnOk};
+ghost use Rattle.sim_disk.specs.Load.{bytes_of};
 ghost use Rattle.sim_disk.specs.Medium.{covers, brings, count_of, is_of, write_of};
+ghost use Rattle.sim_disk.specs.Sheet.{Overwrites};
 
-use crate::blocks::BLOCK;
+use crate::blocks::{BLOCK, Blocks};
+use crate::load::Load;
 use split_types::ReqId;
+use std::alloc::{AllocError, Global};
 use std::marker::Model;
 
-/// A write that was started and isn't finished: its request, its first block and the bytes of its blocks.
+/// A write that was started and isn't finished: its request, its first block and what it brings to its blocks.
 #[derive(Drop)]
 pub(crate) struct Write {
     id: ReqId,
     first: u32,
-    bytes: Vec<u8>,
+    load: Load,
 }
 
 impl Model for Write {
+    ghost use Rattle.sim_disk.specs.Load.{bytes_of};
     ghost use Rattle.sim_disk.specs.Medium.{InFlight};
 
     ghost Value = { InFlight };
 
-    ghost view = { λ w. record { id = w.id; first = w.first; bytes = w.bytes.items } };
+    ghost view = { λ w. record { id = w.id; first = w.first; bytes = bytes_of w.load } };
 }
 
 impl Write {
-    /// The write of these bytes from block `first` on.
-    pub(crate) fn new(id: ReqId, first: u32, bytes: Vec<u8>) -> Write
-        ensures { result ≡ record { id = id; first = first; bytes = bytes.items } }
+    /// The write of this load from block `first` on.
+    pub(crate) fn new(id: ReqId, first: u32, load: Load) -> Write
+        ensures { result ≡ record { id = id; first = first; bytes = bytes_of load } }
     {
-        Write { id, first, bytes }
+        Write { id, first, load }
     }
 
     /// How many blocks it has.
     pub(crate) fn count(&self) -> usize
         ensures { result ≡ count_of self.now }
     {
-        self.bytes.len() / BLOCK
+        self.load.count()
     }
 
     /// Whether it is that of a request.
@@ -48,30 +53,31 @@ impl Write {
     pub(crate) fn covers(&self, b: u32) -> bool
         ensures { result ≡ covers self.now b }
     {
-        self.first <= b && ((b - self.first) as usize) < self.bytes.len() / BLOCK
+        self.first <= b && ((b - self.first) as usize) < self.count()
     }
 
-    /// What it brings to a block that it covers.
-    pub(crate) fn brings(&self, b: u32) -> &[u8]
-        requires { covers self.now b ≡ true }
-        ensures bytes { result.now ≡ brings self.now b }
-        ensures len { length result.now ≡ 4096 }
+    /// Lets a block that it covers hold what it brings to it.
+    pub(crate) fn bring(&self, alloc: Global, blocks: &mut Blocks, b: u32) -> Result<(), AllocError>
+        requires within { b < length blocks.old.blocks }
+        requires covered { covers self.now b ≡ true }
+        ensures { OnOk result (Overwrites blocks.old.blocks blocks.new.blocks b 1 (λ i. brings self.now b)) }
     {
-        let from = (b - self.first) as usize * BLOCK;
-        &self.bytes[from..from + BLOCK]
+        let at = (b - self.first) as usize;
+        match &self.load {
+            Load::Filled(fills) => blocks.fill(alloc, b, 1, fills.as_slice()[at]),
+            Load::Bytes(bytes) => {
+                blocks.overwrite(alloc, b, &bytes[at * BLOCK..at * BLOCK + BLOCK])
+            }
+        }
     }
 
-    /// Its first block and its bytes.
-    pub(crate) fn into_parts(self) -> (u32, Vec<u8>)
+    /// Its first block, and what it brings to its blocks.
+    pub(crate) fn into_parts(self) -> (u32, Load)
         ensures first { result.0 ≡ self.first }
-        ensures bytes { result.1.items ≡ self.bytes }
+        ensures bytes { bytes_of result.1 ≡ self.bytes }
     {
-        let Write {
-            id: _,
-            first,
-            bytes,
-        } = self;
-        (first, bytes)
+        let Write { id: _, first, load } = self;
+        (first, load)
     }
 }
 

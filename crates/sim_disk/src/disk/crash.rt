@@ -37,7 +37,7 @@ fn apply_fate(
 {
     match fate {
         Fate::Old => Ok(()),
-        Fate::New => blocks.overwrite(alloc, b, w.brings(b)),
+        Fate::New => w.bring(alloc, blocks, b),
         Fate::Bytes(bytes) => blocks.overwrite(alloc, b, bytes),
     }
 }

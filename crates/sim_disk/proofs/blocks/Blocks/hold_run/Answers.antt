@@ -20,4 +20,6 @@ loop-i-init c =
       blocks = overwrites_none _ _ _ _ (inserted_blocks places runs new key _ kept call.was_vacant call.updates refl
           ∙ ap (λ s. s.blocks) c.self.view_is);
       room = omega (arith, call.len, call.capacity, ap (λ s. s.room) c.self.view_is);
+      left = ap (λ s. s.left) c.self.view_is;
+      ready = ap (λ s. s.ready) c.self.view_is;
     }

@@ -13,7 +13,7 @@ returns c =
     rw (c.in_ok-bytes.ensures.items, first) (first_block c.args.bytes.now c.requires.whole)
     in
     record {
-      bytes = subst (λ old. Overwrites old c.hold.new.self.blocks c.args.b 1 (λ i. c.args.bytes.now))
-          c.in_ok-room.ensures.blocks
-          (overwrites_agree _ _ _ _ (block_of bytes) _ same c.hold.ensures.bytes);
+      bytes = subst (λ old. Overwrites old c.hold_run.new.self.blocks c.args.b 1 (λ i. c.args.bytes.now))
+          c.in_ok-reserve.ensures.blocks
+          (overwrites_agree _ _ _ _ (block_of bytes) _ same c.hold_run.ensures.bytes);
     }
