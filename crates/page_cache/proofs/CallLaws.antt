@@ -1,5 +1,5 @@
 -- What the calls do, put together from their steps.
-use Rattle.std.proofs.Common.{◌≡◌, ◌≢◌, ℕ, ◌+◌, ◌<◌, ◌≤◌, Bool, true, false, List, [], ◌∷◌, map, length, get_or, set, Option, Some, None, IsSome, IfNone, IfSome, is_some, arith, refl, ap, sym, subst, ◌∙◌, inl, inr}
+use Rattle.std.proofs.Common.{◌≡◌, ◌≢◌, ℕ, ◌<◌, ◌≤◌, true, false, List, [], ◌∷◌, map, length, get_or, set, Option, Some, None, IsSome, IfNone, IfSome, is_some, arith, refl, ap, sym, subst, ◌∙◌, inl, inr}
 use Rattle.std.specs.Option.{option_map}
 use Rattle.std.specs.List.{position_or_len}
 use Rattle.std.proofs.lemmas.Bool.{cases_Bool}
@@ -18,11 +18,11 @@ use Rattle.page_cache.specs.Bytes.{filled}
 use Rattle.page_cache.specs.declared.key.PageKey.{PageKey}
 use Rattle.page_cache.specs.Keys.{buf_of}
 use Rattle.page_cache.specs.Held.{Held, state_in}
-use Rattle.page_cache.specs.Cached.{Cached, is_page, page_of, touch_of, tag_in, tags_in, causes_of, IsDataPage}
+use Rattle.page_cache.specs.Cached.{Cached, is_page, page_of, tag_in, tags_in, causes_of, IsDataPage}
 use Rattle.page_cache.specs.Steps.{IsSlot, IsPlaced}
 use Rattle.page_cache.specs.Changes.{ChangesOnly, KeepsTouches, Touches, Writes, page_as, bytes_in}
-use Rattle.page_cache.proofs.SlotLaws.{page-own, some-inside, slot-changes, slot-touches, slot-keeps, slot-set, other-page, held-apart}
-use Rattle.page_cache.proofs.StoreLaws.{put-moved, put-set, put-others, gone-moved, gone-others}
+use Rattle.page_cache.proofs.SlotLaws.{page-own, slot-changes, slot-touches, slot-keeps, other-page, held-apart}
+use Rattle.page_cache.proofs.StoreLaws.{put-moved, put-set, put-others}
 
 -- ---- what a look-up found
 

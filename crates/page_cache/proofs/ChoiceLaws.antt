@@ -1,5 +1,5 @@
 -- Which page is chosen: the first that is ready, and the victim.
-use Rattle.std.proofs.Common.{◌≡◌, ◌≢◌, ◌⊎◌, ℕ, ◌<◌, ◌≤◌, Bool, true, false, List, map, length, get_or, Option, Some, None, IsSome, is_some, arith, refl, ap, sym, subst, ◌∙◌, inl, inr}
+use Rattle.std.proofs.Common.{◌≡◌, ℕ, true, false, List, get_or, Option, Some, None, IsSome, refl, ap, sym, subst, ◌∙◌, inl, inr}
 use Rattle.std.specs.List.{position_or_len}
 use Rattle.std.proofs.lemmas.Bool.{cases_Bool}
 use Rattle.std.proofs.lemmas.List.Sums.{passes_at_first}
@@ -11,10 +11,10 @@ use Rattle.page_cache.specs.declared.key.PageKey.{PageKey}
 use Rattle.page_cache.specs.Keys.{buf_of}
 use Rattle.page_cache.specs.Guide.{Guided, IsLeastKey}
 use Rattle.page_cache.specs.Held.{Held, key_in}
-use Rattle.page_cache.specs.Cached.{Cached, is_page, page_of, is_idle, is_ready}
+use Rattle.page_cache.specs.Cached.{Cached, is_page, is_idle, is_ready}
 use Rattle.page_cache.specs.Kept.{ready_in, AreGuided, AreDistinct}
 use Rattle.page_cache.specs.Steps.{IsSlot}
-use Rattle.page_cache.specs.Changes.{IsVictim, IsReady, IsUpTo, IsFirstReady}
+use Rattle.page_cache.specs.Changes.{IsVictim, IsUpTo, IsFirstReady}
 use Rattle.page_cache.proofs.SlotLaws.{page-key, page-buf, page-own, some-inside, slot-here, slot-place}
 
 -- the page in a place is found there

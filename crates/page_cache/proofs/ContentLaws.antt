@@ -1,5 +1,5 @@
 -- What holds of bytes that are all the same.
-use Rattle.std.proofs.Common.{◌≡◌, ℕ, ◌+◌, ◌-◌, ◌*◌, ◌<◌, ◌≤◌, List, [], ◌++◌, take, drop, length, replicate, arith, refl, ap, sym, ◌∙◌}
+use Rattle.std.proofs.Common.{◌≡◌, ℕ, ◌+◌, ◌-◌, ◌*◌, ◌≤◌, List, [], ◌++◌, take, drop, length, replicate, arith, refl, ap, sym, ◌∙◌}
 use Rattle.std.specs.Prelude.{sum, slice_range, Result, Ok, Err, IsOk, is_ok, if◌then◌else◌}
 use Rattle.std.proofs.lemmas.List.{take-replicate, drop-replicate, replicate-append-replicate, drop_all, take_all, append-nil}
 use Rattle.std.proofs.lemmas.List.Folds.{sum_by-replicate}
@@ -39,11 +39,11 @@ sum-range from to byte order within =
     sym (ap sum rest ∙ sum_by-replicate (λ n. n) (to - from) byte)
 
 -- a list that is filled up
-pub resized : {X E : Type 0} (r : Result X E) (old new : List ℕ) (len n byte : ℕ)
+pub resized : {X E : Type 0} (r : Result X E) (old new : List ℕ) (len n count byte : ℕ)
     → new ≡ (if is_ok r then take n old ++ replicate (n - len) byte else old)
-    → IsOk r → n ≡ len + 4096 → len ≡ length old → new ≡ old ++ replicate 4096 byte
-resized (Err e) old new len n byte is ok more is_len = absurd (cc)
-resized (Ok x) old new len n byte is ok more is_len =
+    → IsOk r → n ≡ len + count → len ≡ length old → new ≡ old ++ replicate count byte
+resized (Err e) old new len n count byte is ok more is_len = absurd (cc)
+resized (Ok x) old new len n count byte is ok more is_len =
     let whole : take n old ≡ old = take_all n old (omega (arith, more, is_len)) in
-    let rest : n - len ≡ 4096 = omega (arith, more) in
+    let rest : n - len ≡ count = omega (arith, more) in
     is ∙ ap (λ xs. xs ++ replicate (n - len) byte) whole ∙ ap (λ m. old ++ replicate m byte) rest

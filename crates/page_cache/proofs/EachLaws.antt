@@ -1,6 +1,6 @@
 -- What holds where each page is changed by a rule that keeps its key.
-use Rattle.std.proofs.Common.{◌≡◌, ◌≢◌, ℕ, suc, ◌+◌, ◌<◌, ◌≤◌, Bool, true, false, cond, List, [], ◌∷◌, map, length, get_or, set, Option, Some, None, IsSome, is_some, arith, refl, ap, sym, ◌∙◌, inl, inr}
-use Rattle.std.specs.Prelude.{count_by, not, ◌==◌}
+use Rattle.std.proofs.Common.{◌≡◌, ◌≢◌, ℕ, suc, ◌<◌, Bool, true, false, List, [], ◌∷◌, map, length, get_or, set, Option, Some, None, IsSome, is_some, arith, refl, ap, sym, ◌∙◌, inl, inr}
+use Rattle.std.specs.Prelude.{count_by}
 use Rattle.std.specs.Option.{option_map}
 use Rattle.std.specs.List.{position_or_len}
 use Rattle.std.proofs.lemmas.Bool.{cases_Bool}
@@ -9,9 +9,8 @@ use Rattle.std.proofs.Math.ListN.{get_or-map}
 use Rattle.std.proofs.Math.Seq.{map-set_same}
 use Rattle.split_types.specs.declared.ids.Pid.{Pid}
 use Rattle.split_types.specs.declared.buf.Buf.{Buf}
-use Rattle.page_cache.specs.declared.page.State.{State}
 use Rattle.page_cache.specs.Held.{Held}
-use Rattle.page_cache.specs.Cached.{Cached, is_page, page_of, touch_of, is_unsettled, pin_in, tag_in, tags_in}
+use Rattle.page_cache.specs.Cached.{Cached, is_page, is_unsettled, pin_in, tag_in, tags_in}
 use Rattle.page_cache.specs.Changes.{ChangesEach, unpinned, is_pinned_by, one_if}
 use Rattle.page_cache.proofs.ListLaws.{count-map, count-same}
 use Rattle.page_cache.proofs.SlotLaws.{count-set}

@@ -1,5 +1,5 @@
 -- What holds where a page goes, and its tag is released.
-use Rattle.std.proofs.Common.{◌≡◌, ◌≢◌, ℕ, ◌<◌, ◌≤◌, ◌+◌, map, length, get_or, set, List, Option, Some, None, IsSome, true, arith, refl, ap, sym, ◌∙◌}
+use Rattle.std.proofs.Common.{◌≡◌, ◌≢◌, ℕ, ◌<◌, map, length, get_or, set, List, Option, Some, None, IsSome, true, refl, ap, ◌∙◌}
 use Rattle.std.specs.List.{position_or_len}
 use Rattle.std.proofs.lemmas.List.{map-set, length-map}
 use Rattle.std.proofs.lemmas.List.Sums.{passes_at_first}
@@ -7,7 +7,6 @@ use Rattle.std.specs.Prelude.{IfSome}
 use Rattle.std.specs.Option.{option_map}
 use Rattle.split_types.specs.declared.buf.Buf.{Buf}
 use Rattle.cause_set.specs.Tags.{Tags, Moved, no_use, same, use_in, held, Covers}
-use Rattle.page_cache.specs.Keys.{buf_of}
 use Rattle.page_cache.specs.Held.{Held}
 use Rattle.page_cache.specs.Kept.{IsSound}
 use Rattle.page_cache.specs.Cached.{Cached, is_page, page_of, tag_in, tags_in, causes_of, IsDataPage}

@@ -1,5 +1,5 @@
 -- What always holds of a guide, after each step.
-use Rattle.std.proofs.Common.{◌≡◌, ℕ, ◌^◌, ◌<◌, ◌≤◌, Bool, false, List, map, length, set, replicate, Option, None, is_some, refl, ap, sym, ◌∙◌, length-set}
+use Rattle.std.proofs.Common.{◌≡◌, ℕ, ◌^◌, ◌<◌, ◌≤◌, Bool, false, List, length, set, replicate, Option, None, is_some, refl, ap, sym, ◌∙◌, length-set}
 use Rattle.std.proofs.lemmas.List.{map-set, length-replicate}
 use Rattle.split_types.specs.declared.ids.Pid.{Pid}
 use Rattle.page_cache.specs.declared.key.PageKey.{PageKey}

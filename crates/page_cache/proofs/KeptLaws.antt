@@ -1,5 +1,5 @@
 -- What always holds of a cache, after each step.
-use Rattle.std.proofs.Common.{◌≡◌, ◌≢◌, ℕ, ◌+◌, ◌-◌, ◌^◌, ◌<◌, ◌≤◌, Bool, true, false, List, map, length, get_or, set, replicate, Option, Some, None, IsSome, IfSome, is_some, arith, refl, ap, sym, ◌∙◌, inl, inr, length-set, get_or-set_same, get_or-set_other}
+use Rattle.std.proofs.Common.{◌≡◌, ◌≢◌, ℕ, ◌+◌, ◌-◌, ◌^◌, ◌<◌, ◌≤◌, List, map, length, get_or, set, Option, Some, None, IsSome, IfSome, is_some, arith, refl, ap, sym, ◌∙◌, inl, inr, length-set, get_or-set_same, get_or-set_other}
 use Rattle.std.specs.Prelude.{count_by}
 use Rattle.std.proofs.lemmas.Bool.{cases_eq}
 use Rattle.std.proofs.lemmas.List.{map-set, length-replicate}
@@ -10,7 +10,7 @@ use Rattle.page_cache.specs.Pool.{Pooled}
 use Rattle.page_cache.specs.Held.{Held, key_in, mark_in}
 use Rattle.page_cache.specs.Cached.{is_idle, is_ready, is_unsettled, is_loading, pin_in}
 use Rattle.page_cache.specs.Changes.{one_if}
-use Rattle.page_cache.specs.Kept.{ready_in, AreGuided, IsSound, AreDistinct, IsReady, IsKept}
+use Rattle.page_cache.specs.Kept.{ready_in, AreGuided, IsSound, AreDistinct, IsKept}
 use Rattle.page_cache.proofs.ListLaws.{map-replicate, empty_places, empty-place, count-replicate}
 use Rattle.page_cache.proofs.SlotLaws.{count-set, some-inside}
 

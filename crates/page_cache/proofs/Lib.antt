@@ -12,6 +12,7 @@ mod RunLaws
 mod TakeLaws
 mod ChoiceLaws
 mod ContentLaws
+mod PatchLaws
 mod MoreLaws
 mod WriteLaws
 mod FreeLaws

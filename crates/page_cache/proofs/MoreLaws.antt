@@ -1,5 +1,5 @@
 -- What the calls do that take more than one step.
-use Rattle.std.proofs.Common.{◌≡◌, ◌≢◌, ℕ, ◌+◌, ◌<◌, ◌≤◌, Bool, true, false, List, map, length, get_or, set, Option, Some, None, IsSome, is_some, arith, refl, ap, sym, subst, ◌∙◌, length-set, get_or-set_same}
+use Rattle.std.proofs.Common.{◌≡◌, ℕ, ◌<◌, true, false, List, length, get_or, set, Option, Some, None, IsSome, refl, ap, sym, ◌∙◌, length-set, get_or-set_same}
 use Rattle.std.specs.Option.{option_map}
 use Rattle.std.proofs.lemmas.List.{set-set}
 use Rattle.fixed_places.specs.Recency.{IsTouched}
@@ -10,7 +10,7 @@ use Rattle.page_cache.specs.declared.page.State.{State}
 use Rattle.page_cache.specs.Keys.{key_of, buf_of}
 use Rattle.page_cache.specs.Held.{Held}
 use Rattle.page_cache.specs.Cached.{Cached, is_page, page_of, IsDataPage}
-use Rattle.page_cache.specs.Steps.{IsPlaced, IsSlot, with_state}
+use Rattle.page_cache.specs.Steps.{IsPlaced, with_state}
 use Rattle.page_cache.specs.Changes.{ChangesOnly, KeepsTouches, Touches, page_as, loaded, written}
 use Rattle.page_cache.proofs.SlotLaws.{page-key}
 use Rattle.page_cache.proofs.CallLaws.{restates, restates-keeps, restates-touches}

@@ -1,9 +1,8 @@
 -- What a step does to the fields of a cache.
-use Rattle.std.proofs.Common.{◌≡◌, ◌≢◌, ℕ, ◌+◌, ◌-◌, ◌<◌, ◌≤◌, Bool, true, false, List, map, length, get_or, set, Option, Some, None, IsSome, is_some, arith, refl, ap, sym, subst, ◌∙◌}
+use Rattle.std.proofs.Common.{◌≡◌, ◌≢◌, ℕ, ◌+◌, ◌-◌, ◌<◌, ◌≤◌, Bool, true, false, List, length, get_or, set, Option, Some, None, IsSome, is_some, arith, refl, ap, sym, ◌∙◌}
 use Rattle.std.specs.Prelude.{count_by}
 use Rattle.std.specs.Int.{from_bool}
 use Rattle.std.specs.Option.{option_map}
-use Rattle.std.specs.Global.{Vec}
 use Rattle.std.specs.List.{position_or_len}
 use Rattle.std.proofs.lemmas.List.{map-set, length-map, get_or_default}
 use Rattle.std.proofs.Math.ListN.{get_or-map}
@@ -73,6 +72,10 @@ as-one false = refl
 some-mapped : {X Y : Type 0} (f : X → Y) (x : Option X) → is_some (option_map f x) ≡ is_some x
 some-mapped f None = refl
 some-mapped f (Some y) = refl
+
+-- where no memory is taken, that of one page at most is
+pub keeps-takes : (old new : Pooled) → KeepsAll old new → TakesOne old new
+keeps-takes old new k = record { pages = omega (arith, k.pages); runs = k.runs; reserved = k.reserved }
 
 module _ {T : Type 0} (number : T → ℕ) where
   -- what a place is seen to hold

@@ -1,19 +1,17 @@
 -- What holds where the pages of a file are gone through, one after another.
-use Rattle.std.proofs.Common.{◌≡◌, ◌≢◌, ℕ, ◌+◌, ◌*◌, ◌<◌, ◌≤◌, Bool, true, false, cond, List, [], ◌∷◌, ◌++◌, map, length, get_or, set, Option, Some, None, IsSome, is_some, arith, refl, ap, sym, ◌∙◌, inl, inr}
-use Rattle.std.specs.Prelude.{count_by, ◌==◌, ◌&&◌, nat_le, nat_lt, if◌then◌else◌}
-use Rattle.std.specs.Option.{option_map}
-use Rattle.std.specs.List.{range_with_len}
+use Rattle.std.proofs.Common.{◌≡◌, ◌≢◌, ℕ, ◌+◌, ◌<◌, Bool, true, false, cond, Option, Some, None, IsSome, is_some, arith, refl, ap, sym, ◌∙◌, inl, inr}
+use Rattle.std.specs.Prelude.{count_by, if◌then◌else◌}
 use Rattle.std.proofs.lemmas.Bool.{cases_Bool, cases_eq, cases_lt}
 use Rattle.std.proofs.lemmas.Bool.Decides.{nat_tests}
 use Rattle.std.proofs.lemmas.List.FromFn.{sum_by-map-range_with_len_more}
 use Rattle.split_types.specs.declared.ids.Serial.{Serial}
 use Rattle.split_types.specs.declared.buf.Buf.{Buf}
 use Rattle.split_types.specs.declared.buf.Buf.TheVariants.{Page, Bitmap, Dir, Inode}
-use Rattle.split_types.specs.Hooks.{same_buf, is_among}
+use Rattle.split_types.specs.Hooks.{is_among}
 use Rattle.split_types.specs.Parents.{pages_of}
 use Rattle.cause_set.specs.Tags.{Tags, Moved, same, held, Covers}
 use Rattle.page_cache.specs.Held.{Held}
-use Rattle.page_cache.specs.Cached.{Cached, page_of, is_unsettled, tag_in, tags_in, held_in, unsettled_in, causes_of, IsDataPage}
+use Rattle.page_cache.specs.Cached.{Cached, page_of, is_unsettled, tags_in, held_in, unsettled_in, causes_of, IsDataPage}
 use Rattle.page_cache.specs.Changes.{ChangesOnly, KeepsTouches, Frees, is_of, one_if}
 use Rattle.page_cache.proofs.StoreLaws.{held-then, held-covers}
 

@@ -1,5 +1,5 @@
 -- What holds of places, and of the pages that they hold, where one place is written.
-use Rattle.std.proofs.Common.{◌≡◌, ◌≢◌, ◌⊎◌, ℕ, ◌+◌, ◌<◌, ◌≤◌, Bool, true, false, cond, List, map, length, get_or, set, Option, Some, None, IsSome, is_some, arith, refl, ap, sym, subst, ◌∙◌, inl, inr, length-set, get_or-set_same, get_or-set_other}
+use Rattle.std.proofs.Common.{◌≡◌, ◌≢◌, ℕ, ◌+◌, ◌<◌, Bool, true, false, cond, List, map, length, get_or, set, Option, Some, None, IsSome, is_some, arith, refl, ap, sym, subst, ◌∙◌, inl, inr, length-set, get_or-set_same, get_or-set_other}
 use Rattle.std.specs.Prelude.{count_by, ◌==◌, ◌&&◌}
 use Rattle.std.specs.List.{position_or_len}
 use Rattle.std.proofs.lemmas.Bool.{cases_Bool, cases_eq, cases_lt}
@@ -12,14 +12,13 @@ use Rattle.fixed_places.specs.Recency.{IsTouched}
 use Rattle.split_types.specs.declared.ids.Serial.{Serial}
 use Rattle.split_types.specs.declared.buf.Buf.{Buf}
 use Rattle.split_types.specs.declared.buf.Buf.TheVariants.{Page, Bitmap, Dir, Inode}
-use Rattle.split_types.specs.Hooks.{same_buf}
 use Rattle.cause_set.specs.Tags.{same, use_in, held}
 use Rattle.cause_set.proofs.TagLaws.{held-set}
 use Rattle.page_cache.specs.declared.key.PageKey.{PageKey}
 use Rattle.page_cache.specs.Keys.{key_of, buf_of}
 use Rattle.page_cache.specs.Held.{Held, key_in}
-use Rattle.page_cache.specs.Cached.{Cached, is_page, page_of, touch_of, is_unsettled, tag_in, tags_in, held_in, unsettled_in}
-use Rattle.page_cache.specs.Steps.{IsSlot, IsPlaced}
+use Rattle.page_cache.specs.Cached.{Cached, is_page, page_of, is_unsettled, tag_in}
+use Rattle.page_cache.specs.Steps.{IsSlot}
 use Rattle.page_cache.specs.Changes.{ChangesOnly, Touches, KeepsTouches, one_if}
 
 -- ---- buffers and keys

@@ -1,6 +1,6 @@
 -- What a store has where the tag of one place is put, changed or released.
-use Rattle.std.proofs.Common.{◌≡◌, ◌≢◌, ℕ, ◌+◌, ◌<◌, ◌≤◌, List, map, length, get_or, set, Option, Some, None, arith, refl, ap, sym, ◌∙◌, get_or-set_other}
-use Rattle.cause_set.specs.Tags.{Tags, Moved, no_use, one_use, plus, same, use_in, held, Covers, set_in}
+use Rattle.std.proofs.Common.{◌≡◌, ◌≢◌, ℕ, ◌+◌, ◌<◌, ◌≤◌, List, length, get_or, set, Option, Some, None, arith, refl, ◌∙◌, get_or-set_other}
+use Rattle.cause_set.specs.Tags.{Tags, Moved, no_use, one_use, same, use_in, held, Covers, set_in}
 use Rattle.cause_set.proofs.TagLaws.{one_use-same, moved-then, set_in-keeps, use_in-held, held-set}
 
 -- two places hold no more than the list

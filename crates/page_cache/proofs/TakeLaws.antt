@@ -1,5 +1,5 @@
 -- What holds where the pages of a run are taken out, one after another.
-use Rattle.std.proofs.Common.{◌≡◌, ◌≢◌, ℕ, ◌+◌, ◌-◌, ◌*◌, ◌<◌, ◌≤◌, Bool, true, false, List, [], ◌∷◌, ◌++◌, map, length, get_or, set, Option, Some, None, IsSome, is_some, arith, refl, ap, sym, subst, ◌∙◌, inl, inr}
+use Rattle.std.proofs.Common.{◌≡◌, ℕ, ◌+◌, ◌-◌, ◌<◌, ◌≤◌, Bool, true, false, List, [], ◌∷◌, ◌++◌, map, length, get_or, set, Option, Some, None, IsSome, is_some, arith, refl, ap, sym, subst, ◌∙◌}
 use Rattle.std.specs.Option.{option_map}
 use Rattle.std.specs.Prelude.{count_by, Result, Ok, Err, IsOk, is_ok, if◌then◌else◌, not, ◌&&◌, ◌||◌}
 use Rattle.std.specs.List.{flat_map, position_or_len}
@@ -13,7 +13,7 @@ use Rattle.split_types.specs.Hooks.{is_among}
 use Rattle.split_types.specs.Parents.{pages_of}
 use Rattle.split_types.specs.Sets.{union_of, IsSet}
 use Rattle.split_types.proofs.Sets.{union-one, union-flat}
-use Rattle.cause_set.specs.Tags.{Tags, Moved, no_use, one_use, plus, same, use_in, held, Covers, set_in}
+use Rattle.cause_set.specs.Tags.{Tags, Moved, no_use, one_use, plus, same, use_in, held, Covers}
 use Rattle.cause_set.proofs.TagLaws.{one_use-same, set_in-keeps}
 use Rattle.page_cache.specs.Held.{Held}
 use Rattle.page_cache.specs.Cached.{Cached, is_page, page_of, is_ready, is_unsettled, tag_in, tags_in, held_in, unsettled_in, causes_of, IsDataPage}
@@ -188,6 +188,11 @@ bytes-more c s g n =
     ∙ flat_map-append f (pages_of s g n) (Page s (g + n) ∷ [])
     ∙ ap (λ last. bytes_of c s g n ++ last) one
 
+-- they are those of the places
+pub same-bytes : (v w : Cached) (s : Serial) (g n : ℕ) → w.places ≡ v.places → bytes_of w s g n ≡ bytes_of v s g n
+same-bytes v w s g n places =
+    ap (λ ps. flat_map (λ b. bytes_in (get_or ps (position_or_len (is_page b) ps) None)) (pages_of s g n)) places
+
 -- ---- a tag with the members of theirs
 
 -- a tag of the first pages
@@ -263,53 +268,49 @@ whole-fails before now after c s g n whole so_far m =
 
 -- ---- the whole call
 
--- all is taken: what the cache was before the room was made
-pub takes-all : (before after : Tags) (first old new : Cached) (s : Serial) (g n : ℕ) → old.places ≡ first.places
+-- all is taken
+pub takes-all : (before after : Tags) (old new : Cached) (s : Serial) (g n : ℕ) → TakesTo before after old new s g n
+    → ChangesEach old new (taken_among s g n)
+takes-all before after old new s g n t =
+    record { pages = t.pages; count = t.count; unsettled = t.unsettled; limit = t.limit; touches = t.touches }
+
+-- it is what becomes of the cache before the room was made
+pub each-as : (first old new : Cached) (f : Buf → Held → Held) → old.places ≡ first.places
     → old.touches ≡ first.touches
-    → old.limit ≡ first.limit → TakesTo before after old new s g n → ChangesEach first new (taken_among s g n)
-takes-all before after first old new s g n places touches limit t =
+    → old.limit ≡ first.limit → ChangesEach old new f → ChangesEach first new f
+each-as first old new f places touches limit each =
     record {
-      pages = λ k. t.pages k
-          ∙ ap (λ ps. option_map (taken_among s g n k) (get_or ps (position_or_len (is_page k) ps) None)) places;
-      count = t.count ∙ ap (count_by is_some) places;
-      unsettled = t.unsettled ∙ ap (count_by is_unsettled) places;
-      limit = t.limit ∙ limit;
+      pages = λ k. each.pages k
+          ∙ ap (λ ps. option_map (f k) (get_or ps (position_or_len (is_page k) ps) None)) places;
+      count = each.count ∙ ap (count_by is_some) places;
+      unsettled = each.unsettled ∙ ap (count_by is_unsettled) places;
+      limit = each.limit ∙ limit;
       touches = λ k was is.
           let held_so : IsSome (page_of old k) = rw places was in
-          t.touches k held_so is
+          each.touches k held_so is
           ∙ ap (λ ps. get_or old.touches (position_or_len (is_page k) ps) 0) places
           ∙ ap (λ ts. get_or ts (position_or_len (is_page k) first.places) 0) touches;
     }
 
-module _ (start before after : Tags) (first old new : Cached) (s : Serial) (g n whole : ℕ) (places : old.places
-    ≡ first.places)
-    (came : Moved start before no_use (one_use whole)) (covers : Covers same (tags_in first) start)
+module _ (start before after : Tags) (old new : Cached) (s : Serial) (g n whole : ℕ)
+    (came : Moved start before no_use (one_use whole)) (covers : Covers same (tags_in old) start)
     (t : TakesTo before after old new s g n) where
-  moved_so : Moved before after (held same (tags_in first)) (held same (tags_in new))
-  moved_so = rw (ap (map tag_in) places) at t.moved
-
-  pub takes-moved : Moved start after (held same (tags_in first)) (plus (held same (tags_in new)) (one_use whole))
+  pub takes-moved : Moved start after (held same (tags_in old)) (plus (held same (tags_in new)) (one_use whole))
   takes-moved =
       record {
-        uses = λ m. omega (arith, came.uses m, moved_so.uses m);
-        keeps = λ m some. moved_so.keeps m (omega (arith, came.uses m, some)) ∙ came.keeps m (omega (arith, some));
+        uses = λ m. omega (arith, came.uses m, t.moved.uses m);
+        keeps = λ m some. t.moved.keeps m (omega (arith, came.uses m, some)) ∙ came.keeps m (omega (arith, some));
       }
 
   pub takes-members : after.members whole ≡ before.members whole
-  takes-members = moved_so.keeps whole (omega (arith, came.uses whole, one_use-same whole, covers whole))
+  takes-members = t.moved.keeps whole (omega (arith, came.uses whole, one_use-same whole, covers whole))
 
-  pub takes-causes : (k : Buf) → is_among s g n k ≡ false → causes_of after new k ≡ causes_of start first k
+  pub takes-causes : (k : Buf) → is_among s g n k ≡ false → causes_of after new k ≡ causes_of start old k
   takes-causes k none =
-      let at = position_or_len (is_page k) first.places in
-      let same_causes : causes_of before old k ≡ causes_of before first k =
-      ap (λ ps. set_in same before (tag_in (get_or ps (position_or_len (is_page k) ps) None))) places in
-      t.causes k none ∙ same_causes
-      ∙ set_in-keeps same start before no_use (one_use whole) (tag_in (get_or first.places at None)) came
-      (λ m. omega (arith, tag-covered start first.places at covers m))
-
-  pub takes-bytes : bytes_of old s g n ≡ bytes_of first s g n
-  takes-bytes = ap (λ ps. flat_map (λ b. bytes_in (get_or ps (position_or_len (is_page b) ps) None)) (pages_of s g n))
-      places
+      let at = position_or_len (is_page k) old.places in
+      t.causes k none
+      ∙ set_in-keeps same start before no_use (one_use whole) (tag_in (get_or old.places at None)) came
+      (λ m. omega (arith, tag-covered start old.places at covers m))
 
 -- ---- what the condition gives
 

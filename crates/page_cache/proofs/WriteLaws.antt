@@ -1,6 +1,5 @@
 -- What a write does, and what the beginning of a load does, put together from their steps.
-use Rattle.std.proofs.Common.{◌≡◌, ℕ, ◌+◌, ◌<◌, ◌≤◌, true, false, List, length, get_or, set, Option, Some, None, IsSome, arith, refl, ap, sym, ◌∙◌, ◌-◌, length-set, get_or-set_same}
-use Rattle.std.specs.Option.{option_map}
+use Rattle.std.proofs.Common.{◌≡◌, ℕ, ◌<◌, true, false, List, length, get_or, set, Option, Some, None, refl, ap, sym, ◌∙◌, ◌-◌, length-set}
 use Rattle.std.specs.List.{position_or_len}
 use Rattle.fixed_places.specs.Recency.{IsTouched}
 use Rattle.split_types.specs.declared.ids.Pid.{Pid}
@@ -13,7 +12,7 @@ use Rattle.page_cache.specs.Keys.{key_of}
 use Rattle.page_cache.specs.Held.{Held, state_in}
 use Rattle.page_cache.specs.Cached.{Cached, is_page, page_of}
 use Rattle.page_cache.specs.Steps.{IsSlot, IsPlaced, Enters, changed, with_bytes}
-use Rattle.page_cache.specs.Changes.{ChangesOnly, KeepsTouches, BeginsLoad, page_as, bytes_in}
+use Rattle.page_cache.specs.Changes.{BeginsLoad, page_as, bytes_in}
 use Rattle.page_cache.proofs.SlotLaws.{slot-free, slot-changes, slot-keeps}
 use Rattle.page_cache.proofs.CallLaws.{as-own}
 use Rattle.page_cache.proofs.MoreLaws.{set-twice, as-held, as-keyed}

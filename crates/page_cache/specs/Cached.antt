@@ -1,5 +1,5 @@
 -- What a cache holds: pages, each named by its buffer.
-use Rattle.std.specs.Prelude.{◌≡◌, ◌≢◌, ◌⊎◌, ℕ, ◌<◌, ◌≤◌, Bool, true, false, not, ◌&&◌, ◌==◌, List, map, count_by, length, slice_index, slice_index_or, Option, Some, None, is_some, IsSome, MatchOption}
+use Rattle.std.specs.Prelude.{ℕ, ◌<◌, Bool, false, not, ◌&&◌, List, map, count_by, slice_index, slice_index_or, Option, Some, None, is_some}
 use Rattle.std.specs.List.{position_or_len}
 use Rattle.split_types.specs.declared.ids.Pid.{Pid}
 use Rattle.split_types.specs.declared.buf.Buf.{Buf}
@@ -7,7 +7,6 @@ use Rattle.split_types.specs.declared.buf.Buf.TheVariants.{Page, Bitmap, Dir, In
 use Rattle.split_types.specs.Hooks.{same_buf}
 use Rattle.cause_set.specs.Tags.{Tags, same, set_in}
 use Rattle.page_cache.specs.declared.state.PageState.{PageState}
-use Rattle.page_cache.specs.declared.key.PageKey.{PageKey}
 use Rattle.page_cache.specs.Keys.{buf_of}
 use Rattle.page_cache.specs.Held.{Held, mark_in}
 

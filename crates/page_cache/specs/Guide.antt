@@ -1,5 +1,5 @@
 -- What the places of a cache are found by.
-use Rattle.std.specs.Prelude.{◌≡◌, ◌⊎◌, ℕ, ◌^◌, ◌<◌, ◌≤◌, Bool, true, false, if◌then◌else◌, List, length, map, replicate, slice_set, slice_index_or, Option, Some, None, is_some, IsSome}
+use Rattle.std.specs.Prelude.{◌≡◌, ◌⊎◌, ℕ, ◌^◌, ◌<◌, ◌≤◌, Bool, true, false, List, length, map, replicate, slice_set, slice_index_or, Option, Some, None, is_some, IsSome}
 use Rattle.split_types.specs.declared.ids.Pid.{Pid}
 use Rattle.page_cache.specs.declared.key.PageKey.{PageKey}
 use Rattle.page_cache.specs.declared.page.Mark.{Mark}

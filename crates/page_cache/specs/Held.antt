@@ -1,7 +1,6 @@
 -- A page that a place of a cache holds.
-use Rattle.std.specs.Prelude.{ℕ, Bool, true, false, not, ◌&&◌, ◌||◌, List, Option, Some, None, is_some, is_none}
+use Rattle.std.specs.Prelude.{ℕ, Bool, false, not, ◌&&◌, ◌||◌, List, Option, Some, None, is_some, is_none}
 use Rattle.std.specs.Option.{option_map}
-use Rattle.split_types.specs.declared.ids.Pid.{Pid}
 use Rattle.page_cache.specs.declared.key.PageKey.{PageKey}
 use Rattle.page_cache.specs.declared.page.State.{State}
 use Rattle.page_cache.specs.declared.page.Mark.{Mark}

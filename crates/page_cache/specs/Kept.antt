@@ -3,7 +3,7 @@ use Rattle.std.specs.Prelude.{◌≡◌, ℕ, ◌^◌, ◌<◌, ◌≤◌, List,
 use Rattle.page_cache.specs.declared.key.PageKey.{PageKey}
 use Rattle.page_cache.specs.Guide.{Guided, key_if}
 use Rattle.page_cache.specs.Pool.{Pooled}
-use Rattle.page_cache.specs.Held.{Held, key_in, mark_in}
+use Rattle.page_cache.specs.Held.{Held, key_in}
 use Rattle.page_cache.specs.Cached.{is_idle, is_ready, is_unsettled, pin_in, is_loading}
 
 -- the page in a place, if it is ready

@@ -1,8 +1,7 @@
 -- Keys of pages.
-use Rattle.std.specs.Prelude.{ℕ, ◌<◌, Option, Some, None}
+use Rattle.std.specs.Prelude.{Option, Some, None}
 use Rattle.split_types.specs.declared.buf.Buf.{Buf}
 use Rattle.split_types.specs.declared.buf.Buf.TheVariants.{Page, Bitmap, Dir, Inode}
-use Rattle.split_types.specs.declared.ids.Serial.{Serial}
 use Rattle.page_cache.specs.declared.key.PageKey.{PageKey}
 
 -- the key of a buffer; none where it is no page

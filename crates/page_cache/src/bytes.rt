@@ -1,12 +1,9 @@
 //! The bytes of a page.
-ghost use Rattle.std.specs.Prelude.{◌≡◌, ◌<◌, ◌≤◌, ◌-◌, ◌*◌, true, length, replicate, sum, slice_range};
+ghost use Rattle.std.specs.Prelude.{◌≡◌, ◌+◌, ◌<◌, ◌≤◌, ◌++◌, ◌*◌, ◌^◌, length, replicate, sum, vec_len, vec_capacity};
 ghost use Rattle.page_cache.specs.Bytes.{filled};
 
 /// How many bytes a page has.
 pub(crate) const PAGE: usize = 4096;
-
-/// How many bytes are looked at first where all are to be the same.
-const FEW: usize = 16;
 
 /// The sum of some bytes.
 pub(crate) fn sum(bytes: &[u8]) -> u64
@@ -35,20 +32,21 @@ pub(crate) fn fill_all(bytes: &mut [u8], byte: u8)
     bytes.fill(byte);
 }
 
-/// Whether all bytes are this one. Where one of the first few isn't, no more are looked at.
-pub(crate) fn are_all(bytes: &[u8], byte: u8) -> bool
-    ensures { result ≡ true → bytes.now ≡ replicate (length bytes.now) byte }
+/// The sum of so many bytes that are all this one.
+pub(crate) fn sum_of(count: usize, byte: u8) -> u64
+    requires { count ≤ 4096 }
+    ensures value { result ≡ count * byte }
+    ensures small { result < 2 ^ 20 }
 {
-    bytes.iter().take(FEW).all(|other| *other == byte) && are_same(bytes, byte)
+    count as u64 * u64::from(byte)
 }
 
-/// Whether all bytes are this one; all are looked at.
-fn are_same(bytes: &[u8], byte: u8) -> bool
-    ensures { result ≡ true → bytes.now ≡ replicate (length bytes.now) byte }
+/// Puts one byte so many times behind a run, which has room for that.
+pub(crate) fn append(run: &mut Vec<u8>, count: usize, byte: u8)
+    requires { vec_len run.old + count ≤ vec_capacity run.old }
+    ensures items { run.new.items ≡ run.old.items ++ replicate count byte }
+    ensures len { vec_len run.new ≡ vec_len run.old + count }
+    ensures capacity { vec_capacity run.old ≤ vec_capacity run.new }
 {
-    let mut same = true;
-    for other in bytes {
-        same &= *other == byte;
-    }
-    same
+    let _ = run.resize(run.len() + count, byte);
 }

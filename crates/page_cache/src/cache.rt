@@ -1,6 +1,7 @@
 //! The cache.
 ghost use Rattle.std.specs.Prelude.{◌≡◌, ℕ, ◌≤◌, length, replicate, Some, None, IfOk, IfNone, IfSome, IsOk, IsSome, OnOk, OnErr, option_map, slice_index_or};
 ghost use Rattle.page_cache.specs.Cached.{page_of, IsDataPage, held_in, unsettled_in, state_of, tag_in, tags_in};
+ghost use Rattle.page_cache.specs.Changes.{bytes_in};
 ghost use Rattle.page_cache.specs.Held.{seen};
 ghost use Rattle.cause_set.specs.Tags.{held, same};
 ghost use Rattle.page_cache.specs.Steps.{IsPlaced};
@@ -123,6 +124,13 @@ impl<S: TagStore> Cache<S> {
         ensures { option_map (λ t. S.number t.now) result ≡ tag_in (page_of self.now b) }
     {
         self.page(self.place_of(b)?).tag.as_ref()
+    }
+
+    /// The byte that a page has at each place, where it is known that one is.
+    pub fn fill_of(&self, b: Buf) -> Option<u8>
+        ensures { IfSome result (λ byte. bytes_in (page_of self.now b) ≡ replicate 4096 byte) }
+    {
+        self.page(self.place_of(b)?).bytes.all()
     }
 
     /// The place of a page.

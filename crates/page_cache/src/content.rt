@@ -1,23 +1,26 @@
 //! What bytes a page has.
-ghost use Rattle.std.specs.Prelude.{◌≡◌, ◌+◌, ◌<◌, ◌≤◌, ◌++◌, true, length, replicate, sum, slice_range, vec_len, vec_capacity};
+ghost use Rattle.std.specs.Prelude.{◌≡◌, ◌+◌, ◌<◌, ◌≤◌, ◌++◌, length, replicate, IfSome, sum, slice_range, vec_len, vec_capacity};
 ghost use Rattle.page_cache.specs.Bytes.{filled};
 ghost use Rattle.page_cache.specs.Pool.{TakesOne, KeepsAll};
 ghost use Rattle.page_cache.specs.Stored.{bytes_of};
 
 use crate::bytes;
 use crate::bytes::PAGE;
+use crate::patch::Patch;
 use crate::pool::Pool;
 use std::marker::Model;
 use std::mem;
 
-/// The bytes of a page as they are kept: one byte that they all are, or each of them.
+/// The bytes of a page as they are kept: one byte that they all are, that and another which some of them are, or
+/// each of them.
 #[derive(Debug, Drop)]
 pub(crate) enum Stored {
     Filled(u8),
+    Patched(Patch),
     Bytes(Vec<u8>),
 }
 
-/// The bytes of a page. They take memory only where they aren't all the same.
+/// The bytes of a page. They take no memory as long as one byte alone was written over one.
 #[derive(Debug, Drop)]
 pub(crate) struct Content {
     stored: Stored,
@@ -48,7 +51,47 @@ impl Stored {
                 bytes::fill_all(&mut bytes, byte);
                 bytes
             }
+            Stored::Patched(patch) => {
+                let mut bytes = pool.take();
+                patch.write_to(&mut bytes);
+                bytes
+            }
             Stored::Bytes(bytes) => bytes,
+        }
+    }
+
+    /// What they become where one byte is written from a place on up to another, if that takes no memory.
+    fn rewritten(&self, from: usize, to: usize, byte: u8) -> Option<Stored>
+        requires len { length (bytes_of self.now) ≡ 4096 }
+        requires order { from ≤ to }
+        requires within { to ≤ 4096 }
+        ensures { IfSome result (λ stored. bytes_of stored ≡ filled (bytes_of self.now) from to byte) }
+    {
+        if to - from == PAGE {
+            return Some(Stored::Filled(byte));
+        }
+        match self {
+            Stored::Filled(all) => Some(Stored::over(*all, from, to, byte)),
+            Stored::Patched(patch) => Some(Stored::over(
+                patch.base_under(from, to)?,
+                from,
+                to,
+                byte,
+            )),
+            Stored::Bytes(_) => None,
+        }
+    }
+
+    /// One byte all over, and then one from a place on up to another.
+    fn over(all: u8, from: usize, to: usize, byte: u8) -> Stored
+        requires order { from ≤ to }
+        requires within { to ≤ 4096 }
+        ensures { bytes_of result ≡ filled (replicate 4096 all) from to byte }
+    {
+        if all == byte {
+            Stored::Filled(byte)
+        } else {
+            Stored::Patched(Patch::new(all, from, to, byte))
         }
     }
 
@@ -60,7 +103,7 @@ impl Stored {
         ensures pool { TakesOne pool.old pool.new }
     {
         match self {
-            Stored::Filled(_) => pool.take(),
+            Stored::Filled(_) | Stored::Patched(_) => pool.take(),
             Stored::Bytes(bytes) => bytes,
         }
     }
@@ -86,14 +129,23 @@ impl Content {
         }
     }
 
-    /// Whether it is known that all bytes are this one.
-    fn is_all(&self, byte: u8) -> bool
-        ensures { result ≡ true → self.now ≡ replicate 4096 byte }
+    /// The byte that they all are, where it is known that they are one.
+    pub(crate) fn all(&self) -> Option<u8>
+        ensures { IfSome result (λ byte. self.now ≡ replicate 4096 byte) }
     {
         match &self.stored {
-            Stored::Filled(all) => *all == byte,
-            Stored::Bytes(_) => false,
+            Stored::Filled(byte) => Some(*byte),
+            Stored::Patched(_) | Stored::Bytes(_) => None,
         }
+    }
+
+    /// Writes one byte all over.
+    pub(crate) fn fill_all(&mut self, pool: &mut Pool, byte: u8)
+        ensures value { self.new ≡ replicate 4096 byte }
+        ensures pool { KeepsAll pool.old pool.new }
+    {
+        let old = mem::replace(&mut self.stored, Stored::Filled(byte));
+        old.give_back(pool);
     }
 
     /// Writes one byte from a place on up to another.
@@ -105,17 +157,15 @@ impl Content {
         ensures len { length self.new ≡ 4096 }
         ensures pool { TakesOne pool.old pool.new }
     {
-        if self.is_all(byte) {
+        if let Some(stored) = self.stored.rewritten(from, to, byte) {
+            let old = mem::replace(&mut self.stored, stored);
+            old.give_back(pool);
             return;
         }
         let old = mem::replace(&mut self.stored, Stored::Filled(byte));
-        if to - from == PAGE {
-            old.give_back(pool);
-        } else {
-            let mut bytes = old.into_vec(pool);
-            bytes::fill(&mut bytes, from, to, byte);
-            self.stored = Stored::Bytes(bytes);
-        }
+        let mut bytes = old.into_vec(pool);
+        bytes::fill(&mut bytes, from, to, byte);
+        self.stored = Stored::Bytes(bytes);
     }
 
     /// Takes these bytes for its own.
@@ -125,15 +175,10 @@ impl Content {
         ensures value { self.new ≡ bytes.now }
         ensures pool { TakesOne pool.old pool.new }
     {
-        let first = bytes[0];
-        let old = mem::replace(&mut self.stored, Stored::Filled(first));
-        if bytes::are_all(bytes, first) {
-            old.give_back(pool);
-        } else {
-            let mut own = old.into_memory(pool);
-            own.copy_from_slice(bytes);
-            self.stored = Stored::Bytes(own);
-        }
+        let old = mem::replace(&mut self.stored, Stored::Filled(0));
+        let mut own = old.into_memory(pool);
+        own.copy_from_slice(bytes);
+        self.stored = Stored::Bytes(own);
     }
 
     /// Gives the memory back, where there is some.
@@ -150,7 +195,8 @@ impl Content {
         ensures { result ≡ sum (slice_range self.now from to) }
     {
         match &self.stored {
-            Stored::Filled(byte) => (to - from) as u64 * u64::from(*byte),
+            Stored::Filled(byte) => bytes::sum_of(to - from, *byte),
+            Stored::Patched(patch) => patch.sum(from, to),
             Stored::Bytes(bytes) => bytes::sum(&bytes[from..to]),
         }
     }
@@ -162,9 +208,8 @@ impl Content {
         ensures capacity { vec_capacity run.old ≤ vec_capacity run.new }
     {
         match &self.stored {
-            Stored::Filled(byte) => {
-                let _ = run.resize(run.len() + PAGE, *byte);
-            }
+            Stored::Filled(byte) => bytes::append(run, PAGE, *byte),
+            Stored::Patched(patch) => patch.append_to(run),
             Stored::Bytes(bytes) => {
                 let _ = run.extend_from_slice(bytes);
             }

@@ -1,5 +1,5 @@
 //! What a place holds.
-ghost use Rattle.std.specs.Prelude.{◌≡◌, None};
+ghost use Rattle.std.specs.Prelude.{◌≡◌, None, is_some, false};
 ghost use Rattle.page_cache.specs.Held.{mark_of, mark_in, state_in};
 
 use crate::content::Content;
@@ -36,6 +36,17 @@ pub(crate) struct Page<T> {
     /// The tag of its causes, where it is dirty.
     pub(crate) tag: Option<T>,
     pub(crate) state: State,
+}
+
+impl<T> Page<T> {
+    /// Its bytes have come. It answers what the page is found by then.
+    pub(crate) fn end_load(&mut self) -> Mark
+        ensures page { self.new ≡ record self.old { state = record self.old.state { loading = false } } }
+        ensures mark { result ≡ mark_of (is_some self.old.tag) (record self.old.state { loading = false }) }
+    {
+        self.state.loading = false;
+        Mark::of(self.tag.is_some(), self.state)
+    }
 }
 
 /// What a page is found by, beside its key.

@@ -1,5 +1,5 @@
 //! The steps of which the calls are made.
-ghost use Rattle.std.specs.Prelude.{◌≡◌, ◌-◌, ◌<◌, ◌≤◌, length, slice_set, slice_index_or, None, IsSome, option_map, true};
+ghost use Rattle.std.specs.Prelude.{◌≡◌, ◌-◌, ◌<◌, ◌≤◌, length, replicate, slice_set, slice_index_or, None, IsSome, option_map, true};
 ghost use Rattle.fixed_places.specs.Recency.{IsTouched};
 ghost use Rattle.page_cache.specs.Bytes.{filled};
 ghost use Rattle.page_cache.specs.Keys.{buf_of};
@@ -115,8 +115,23 @@ impl<S: TagStore> Cache<S> {
         self.pool.release(1);
         let page = self.places[at].as_mut().unwrap();
         page.bytes.copy_in(&mut self.pool, bytes);
-        page.state.loading = false;
-        let mark = Mark::of(page.tag.is_some(), page.state);
+        let mark = page.end_load();
+        let key = page.key;
+        self.guide.mark(at, key, mark);
+    }
+
+    /// Gives a page that is loading its bytes: this one at each place.
+    pub(super) fn fill_in(&mut self, at: usize, byte: u8)
+        requires { is_loading (slice_index_or self.old.places at None) ≡ true }
+        ensures { self.new ≡ record self.old {
+          places = slice_set self.old.places at
+              (option_map (loaded (replicate 4096 byte)) (slice_index_or self.old.places at None));
+        } }
+    {
+        self.pool.release(1);
+        let page = self.places[at].as_mut().unwrap();
+        page.bytes.fill_all(&mut self.pool, byte);
+        let mark = page.end_load();
         let key = page.key;
         self.guide.mark(at, key, mark);
     }

@@ -1,5 +1,5 @@
 //! Pages that are loaded.
-ghost use Rattle.std.specs.Prelude.{◌≡◌, ◌+◌, ◌<◌, ◌≤◌, true, length, None, IsOk, OnOk, OnErr, option_map};
+ghost use Rattle.std.specs.Prelude.{◌≡◌, ◌+◌, ◌<◌, ◌≤◌, true, length, replicate, None, IsOk, OnOk, OnErr, option_map};
 ghost use Rattle.page_cache.specs.Cached.{page_of, IsDataPage, held_in, is_loading, tags_in};
 ghost use Rattle.page_cache.specs.Changes.{BeginsLoad, ChangesOnly, ChangesEach, KeepsTouches, Touches, loaded, unpinned};
 
@@ -44,6 +44,18 @@ impl<S: TagStore> Cache<S> {
     {
         let at = self.place_of(b).unwrap();
         self.copy_in(at, bytes);
+        self.touch(at);
+    }
+
+    /// Gives a page that is loading its bytes: this one at each place.
+    pub fn load_filled(&mut self, b: Buf, byte: u8)
+        requires { is_loading (page_of self.old b) ≡ true }
+        ensures page { ChangesOnly self.old self.new b (option_map (loaded (replicate 4096 byte)) (page_of self.old b)) }
+        ensures touched { Touches self.old self.new b }
+        ensures spare { self.new.spare ≡ self.old.spare }
+    {
+        let at = self.place_of(b).unwrap();
+        self.fill_in(at, byte);
         self.touch(at);
     }
 

@@ -57,14 +57,60 @@ impl<S: TagStore> Cache<S> {
         ensures succeeds { 0 < self.old.spare → n ≤ (S.now tags.old).spare → IsOk result }
     {
         self.room(alloc, 1)?;
+        let bytes = self.run_bytes(alloc, s, page, n);
+        let tag = self.take_tag(tags, s, page, n)?;
+        Ok((bytes, tag))
+    }
+
+    /// Takes the `n` pages of a file from `page` on out as `take_out` does, but hands out no bytes of them: a tag
+    /// whose members are those of all. They are clean and busy then, and their own tags are released.
+    pub fn take_tag(
+        &mut self,
+        tags: &mut S,
+        s: Serial,
+        page: u32,
+        n: u32,
+    ) -> Result<S::Tag, AllocError>
+        requires some { 1 ≤ n }
+        requires few { n ≤ 16 }
+        requires ready { (k : ℕ) → k < n → IsReady self.old (Page s (page + k)) }
+        requires covers { Covers same (tags_in self.old) (S.now tags.old) }
+        ensures set { IfOk result (λ t. (S.now tags.new).members (S.number t)
+            ≡ union_of (map (causes_of (S.now tags.old) self.old) (pages_of s page n))) }
+        ensures pages { OnOk result (ChangesEach self.old self.new (taken_among s page n)) }
+        ensures causes { OnOk result ((k : _) → is_among s page n k ≡ false
+            → causes_of (S.now tags.new) self.new k ≡ causes_of (S.now tags.old) self.old k) }
+        ensures moved { IfOk result (λ t. Moved (S.now tags.old) (S.now tags.new) (held same (tags_in self.old))
+            (plus (held same (tags_in self.new)) (one_use (S.number t)))) }
+        ensures err { OnErr result (self.new ≡ self.old) }
+        ensures err_tags { OnErr result (Moved (S.now tags.old) (S.now tags.new) no_use no_use) }
+        ensures spare { self.new.spare ≡ self.old.spare }
+        ensures tags_spare { (S.now tags.old).spare ≤ (S.now tags.new).spare + n }
+        ensures succeeds { n ≤ (S.now tags.old).spare → IsOk result }
+    {
         let tag = self.whole_tag(tags, s, page, n)?;
+        for k in 0..n {
+            let at = self.place_of(Buf::Page(s, page + k)).unwrap();
+            self.take_page(tags, at);
+        }
+        Ok(tag)
+    }
+
+    /// The bytes of `n` pages, one page after another.
+    fn run_bytes(&mut self, alloc: Global, s: Serial, page: u32, n: u32) -> Vec<u8>
+        requires some { 1 ≤ n }
+        requires few { n ≤ 16 }
+        requires ready { (k : ℕ) → k < n → IsReady self.old (Page s (page + k)) }
+        requires room { 0 < self.old.spare }
+        ensures bytes { result.items ≡ flat_map (λ b. bytes_in (page_of self.old b)) (pages_of s page n) }
+        ensures rest { self.new ≡ record self.old { spare = self.old.spare - 1 } }
+    {
         let mut bytes = self.take_run(alloc, n);
         for k in 0..n {
             let at = self.place_of(Buf::Page(s, page + k)).unwrap();
             self.page(at).bytes.append_to(&mut bytes);
-            self.take_page(tags, at);
         }
-        Ok((bytes, tag))
+        bytes
     }
 
     /// A tag with the members of the tags of `n` pages.
@@ -114,6 +160,7 @@ impl<S: TagStore> Cache<S> {
         ensures empty { result.items ≡ [] }
         ensures room { n * 4096 ≤ vec_capacity result }
         ensures rest { self.new ≡ record self.old { spare = self.old.spare - 1 } }
+        ensures numbers { (k : _) → IsSome (page_of self.old k) → IsDataPage k }
     {
         self.spare -= 1;
         self.pool.run(alloc, n as usize)

@@ -1,12 +1,10 @@
-use Rattle.std.proofs.Common.{◌≡◌, ◌∙◌, Some, None, true, false, get_or, length, refl, ap, sym, arith}
+use Rattle.std.proofs.Common.{◌≡◌, ◌∙◌, Some, None, true, get_or, length, refl, ap, sym, arith}
 use Rattle.std.proofs.lemmas.Grind.{common_steps}
 use Rattle.page_cache.specs.Guide.{Guided}
-use Rattle.page_cache.specs.Held.{mark_of}
 use Rattle.page_cache.specs.Fields.{all_seen}
 use Rattle.page_cache.specs.Cached.{is_loading}
 use Rattle.page_cache.proofs.PageLaws.{keeps-loaded, loading-some, view-loaded, seen-at}
 use Rattle.page_cache.proofs.KeptLaws.{kept-reserved}
-use Rattle.page_cache.specs.declared.page.State.{State}
 use Rattle.page_cache.proofs.cache.Cache.copy_in.Goals as goal
 
 pub release-requires : goal.release-requires
@@ -27,12 +25,10 @@ invariant_of-self g c =
     let loading : page.state.loading ≡ true =
     sym (ap is_loading (seen-at number i.places.items c.args.at page here))
     ∙ (rw (← c.self.view_is) at c.requires.loading) in
-    let state : State = record page.state { loading = false } in
-    let mark = c.of-mark.ensures ∙ ap (λ dirty. mark_of dirty state) c.is_some.ensures in
-    rw c.mark.ensures
-    (keeps-loaded number i.limit i.spare i.places.items i.guide i.pool c.args.at page c.copy_in.new.self c.of-mark.result
+    rw (c.mark.ensures, c.end_load-mark.ensures.page)
+    (keeps-loaded number i.limit i.spare i.places.items i.guide i.pool c.args.at page c.copy_in.new.self c.end_load-mark.result
     c.release.new.self c.copy_in.new.pool c.self.invariant here (ap length c.copy_in.ensures.value ∙ c.requires.len)
-    loading mark c.release.ensures c.copy_in.ensures.pool)
+    loading c.end_load-mark.ensures.mark c.release.ensures c.copy_in.ensures.pool)
 
 pub returns : goal.returns
 returns g c =
@@ -42,6 +38,6 @@ returns g c =
     let here : get_or i.places.items c.args.at None ≡ Some page = grind (arith, common_steps) in
     let touches = ap (λ (v : Guided). v.touches) c.mark.ensures in
     let bytes = c.copy_in.ensures.value in
-    rw (← c.self.view_is, ← bytes)
+    rw (← c.self.view_is, ← bytes, c.end_load-mark.ensures.page)
     (view-loaded number i.limit i.spare i.places.items i.guide i.pool c.args.at c.mark.new.self page
     c.copy_in.new.self here touches)

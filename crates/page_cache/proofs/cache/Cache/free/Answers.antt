@@ -1,4 +1,4 @@
-use Rattle.std.proofs.Common.{◌≡◌, ◌≤◌, ◌<◌, arith}
+use Rattle.std.proofs.Common.{◌≡◌, ◌<◌, arith}
 use Rattle.page_cache.proofs.RunLaws.{frees-start, frees-next, frees-all}
 use Rattle.page_cache.proofs.cache.Cache.free.Goals as goal
 

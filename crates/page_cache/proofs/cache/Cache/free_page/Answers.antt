@@ -1,4 +1,4 @@
-use Rattle.std.proofs.Common.{◌≡◌, None, get_or, refl}
+use Rattle.std.proofs.Common.{None, get_or, refl}
 use Rattle.cause_set.specs.Tags.{same, use_in, no_use}
 use Rattle.cause_set.proofs.TagLaws.{use_in-same, moved-as}
 use Rattle.page_cache.specs.Cached.{tag_in}

@@ -1,4 +1,4 @@
-use Rattle.std.proofs.Common.{◌≡◌, None, Some, true, ap}
+use Rattle.std.proofs.Common.{◌≡◌, None, true, ap}
 use Rattle.page_cache.specs.Cached.{Cached, is_loading}
 use Rattle.page_cache.specs.Steps.{IsPlaced}
 use Rattle.page_cache.proofs.CallLaws.{is-there, some-at, leaves, leaves-touches}
