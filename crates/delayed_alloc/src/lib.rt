@@ -9,7 +9,8 @@
 //! and as how many free blocks are promised. They say which run is taken, and of each change which blocks
 //! stay as they were. All memory is taken by `new`; no other call asks for any.
 //!
-//! It is for whatever maps the pages of files to blocks. The program doesn't use it yet.
+//! It is for whatever maps the pages of files to blocks. The core takes its blocks from one, and `client_calls` asks it
+//! whether one is left.
 #![tactic(auto)]
 
 mod alloc;

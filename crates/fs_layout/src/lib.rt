@@ -9,8 +9,8 @@
 //! [`put_inode`] and [`put_entry`] write an inode and an entry of the directory from parts, for what keeps files in
 //! memory, and [`BlockBits`] is a bitmap of which one bit changes at a time.
 //!
-//! `small_fs` stands on this crate. The readers, and the blocks of the journal, are for recovery after a crash; the
-//! program doesn't use them yet.
+//! `small_fs` stands on this crate, and the core, whose disk starts with these blocks. The readers, and the blocks of the
+//! journal, are for recovery after a crash; the program doesn't use them yet.
 #![tactic(auto)]
 
 mod bitmap;

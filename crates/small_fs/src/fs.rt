@@ -181,6 +181,14 @@ impl Fs {
         Ok(made)
     }
 
+    /// The serial of the file of a slot.
+    pub fn serial_of(&self, s: Slot) -> Serial
+        requires { IsSome (file_at self.now.slots s.0) }
+        ensures { IfSome (file_at self.now.slots s.0) (λ f. result ≡ f.serial) }
+    {
+        self.file(s).serial()
+    }
+
     /// The size of the file of a slot, in bytes.
     pub fn size_of(&self, s: Slot) -> u32
         requires { IsSome (file_at self.now.slots s.0) }

@@ -11,8 +11,8 @@
 //! up to the last page with a block.
 //!
 //! It is for a machine whose calls make, write and drop files, and whose writeback and journal write metadata: `map_run`
-//! takes the run of blocks to which pages were written, `image` gives the blocks that a transaction logs. The program
-//! doesn't use it yet.
+//! takes the run of blocks to which pages were written, `image` gives the blocks that a transaction logs. The core keeps
+//! its files in one; `client_calls` and `writeback` look into it.
 #![tactic(auto)]
 
 mod file;
