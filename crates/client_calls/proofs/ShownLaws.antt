@@ -1,17 +1,21 @@
 -- What follows where what decides a client's next event is what the client sees.
-use Rattle.std.proofs.Common.{◌≡◌, ℕ, Bool, true, false, not, ◌&&◌, Option, Some, None, is_some, IfNone, IfSome, refl, sym, ◌∙◌, IsSomeAnd}
+use Rattle.std.proofs.Common.{◌≡◌, ℕ, Bool, true, false, not, ◌&&◌, Option, Some, None, is_some, is_none, IfNone, IfSome, refl, sym, ◌∙◌, IsSomeAnd}
 use Rattle.split_types.specs.declared.ids.Pid.{Pid}
 use Rattle.split_types.specs.declared.ids.Serial.{Serial}
 use Rattle.split_types.specs.declared.buf.Buf.{Buf}
 use Rattle.split_types.specs.declared.buf.Buf.TheVariants.{Page}
 use Rattle.split_types.specs.declared.event.Event.TheVariants.{Put, Get}
+use Rattle.split_types.specs.LiveFiles.{Slots}
 use Rattle.split_types.specs.Pieces.{Piece}
 use Rattle.split_types.specs.Clients.{PieceState, put_of, get_of}
 use Rattle.page_cache.specs.Held.{Held}
 use Rattle.page_cache.specs.Cached.{Cached, page_of, is_idle, is_loading}
 use Rattle.page_cache.specs.Changes.{IsVictim, IsLoaded}
 use Rattle.client_calls.specs.declared.standing.Standing.{Standing}
+use Rattle.client_calls.specs.declared.working_file.WorkingFile.{WorkingFile}
 use Rattle.client_calls.specs.View.{View, is_crowded}
+use Rattle.client_calls.specs.CallFile.{IsThere}
+use Rattle.client_calls.specs.Space.{block_of, block_at, is_used_up}
 use Rattle.client_calls.specs.Standing.{standing_of}
 use Rattle.client_calls.specs.Shows.{IsEvicted, ShowsPiece}
 
@@ -43,6 +47,23 @@ pub waits_as :
     → ShowsPiece p file left v s → Stands s page → waits ≡ (not page.unsettled && is_crowded v)
     → (not s.unsettled && s.crowded) ≡ waits
 waits_as p file left v s page waits shows so is = rw (so.unsettled, shows.crowded, is) refl
+
+-- the block of the page
+pub block_is :
+    (slots : Slots) (file : WorkingFile) (page : ℕ) → IsThere slots file
+    → block_of slots file.serial page ≡ block_at slots file.slot.0 page
+block_is slots file page there = rw (there.slot, block_of) refl
+
+-- whether no block can be had for the page
+pub lacks_as :
+    (p : Pid) (file : WorkingFile) (left : Piece) (v : View) (s : PieceState) (b : Buf) (page : Standing) (lacks : Bool)
+    → ShowsPiece p file.serial left v s → IsThere v.files.slots file → b ≡ Page file.serial left.page
+    → page ≡ standing_of (page_of v.cache b)
+    → lacks
+    ≡ (is_none (block_at v.files.slots file.slot.0 left.page) && not page.dirty && is_used_up v.blocks)
+    → s.without_space ≡ lacks
+lacks_as p file left v s b page lacks shows there here so is =
+    rw (is, so, here, ← block_is v.files.slots file left.page there) shows.without_space
 
 -- the events that move the piece
 pub put_is :

@@ -1,11 +1,12 @@
 -- How what a process sees has to do with what decides its next event.
-use Rattle.std.specs.Prelude.{◌≡◌, false, sum, slice_range, Option, Some, None, is_some, IsSomeAnd}
+use Rattle.std.specs.Prelude.{◌≡◌, false, sum, slice_range, Option, Some, None, is_some, IsSomeAnd, IfSome}
 use Rattle.split_types.specs.declared.ids.Pid.{Pid}
 use Rattle.split_types.specs.declared.ids.Serial.{Serial}
 use Rattle.split_types.specs.declared.buf.Buf.{Buf}
 use Rattle.split_types.specs.declared.buf.Buf.TheVariants.{Page}
 use Rattle.split_types.specs.declared.call.Call.{Call}
 use Rattle.split_types.specs.declared.event.Event.{Event}
+use Rattle.split_types.specs.LiveFiles.{free_slot}
 use Rattle.split_types.specs.Pieces.{Piece}
 use Rattle.split_types.specs.Clients.{PieceState, ClientState}
 use Rattle.page_cache.specs.Cached.{Cached, page_of, is_loading, is_unsettled, is_idle}
@@ -13,6 +14,8 @@ use Rattle.page_cache.specs.Changes.{IsVictim, IsLoaded, bytes_in}
 use Rattle.client_calls.specs.declared.next.ClientNext.{ClientNext}
 use Rattle.client_calls.specs.declared.next.ClientNext.TheVariants.{Nothing, Wait, Act}
 use Rattle.client_calls.specs.View.{View, is_crowded, is_full, piece_left}
+use Rattle.client_calls.specs.CallFile.{slot_in, file_in, is_name_taken}
+use Rattle.client_calls.specs.Space.{block_of, is_without_space, is_in_run}
 
 -- the page that is evicted next, where the cache says which one that is; none where no page may be evicted
 pub record IsEvicted (c : Cached) (next : Option Buf) : Type 0 where
@@ -26,10 +29,13 @@ pub record ShowsPiece (p : Pid) (file : Serial) (left : Piece) (v : View) (s : P
   pub serial : s.serial ≡ file
   pub piece : s.piece ≡ left
   pub read_badly : s.read_badly ≡ v.progress.bad_read
+  pub moved : s.moved ≡ v.progress.moved
   pub loading : s.loading ≡ is_loading (page_of v.cache (Page file left.page))
+  pub in_mapped_run : s.in_mapped_run ≡ is_in_run v.mapped (Page file left.page)
   pub unsettled : s.unsettled ≡ is_unsettled (page_of v.cache (Page file left.page))
   pub held : s.held ≡ is_some (page_of v.cache (Page file left.page))
-  pub block : s.block ≡ v.block
+  pub block : s.block ≡ block_of v.files.slots file left.page
+  pub without_space : s.without_space ≡ is_without_space v file left.page
   pub crowded : s.crowded ≡ is_crowded v
   pub full : s.full ≡ is_full v
   pub victim : IsEvicted v.cache s.victim
@@ -52,10 +58,16 @@ pub record Shows (p : Pid) (v : View) (s : ClientState) : Type 0 where
   pub entered : s.entered ≡ v.progress.entered
   pub may_admit : s.may_admit ≡ v.may_admit
   pub admitted : s.admitted ≡ v.progress.admitted
-  pub file : s.file ≡ v.progress.bound
+  pub acted : s.acted ≡ v.progress.acted
+  pub name_taken : s.name_taken ≡ is_name_taken v.files.slots v.progress.call
+  pub free_slot : s.free_slot ≡ free_slot v.files.slots
+  pub new_serial : s.new_serial ≡ record { 0 = v.files.next }
+  pub file : s.file ≡ file_in v.files.slots v.progress.bound
+  -- the slot counts where the file is there
+  pub slot : IfSome (slot_in v.files.slots v.progress.bound) (λ slot. s.slot ≡ record { 0 = slot })
   pub moved : s.moved ≡ v.progress.moved
   pub got : s.got ≡ v.progress.sum
-  pub piece : ShowsLeft p v v.progress.bound (piece_left v.progress) s.piece
+  pub piece : ShowsLeft p v (file_in v.files.slots v.progress.bound) (piece_left v.progress) s.piece
 
 -- the answer where this event comes next, if one does, and this call is under way or left, if one is
 abbrev pub answer_of : Option Event → Option Call → ClientNext

@@ -1,17 +1,23 @@
 -- What a process sees.
 use Rattle.std.specs.Prelude.{ℕ, ◌-◌, nat_le, Bool, Option, Some, None}
 use Rattle.split_types.specs.declared.ids.ReqId.{ReqId}
+use Rattle.split_types.specs.declared.request.Run.{Run}
 use Rattle.split_types.specs.Pieces.{Piece, next_piece}
+use Rattle.small_fs.specs.Files.{Files}
+use Rattle.delayed_alloc.specs.Blocks.{Blocks}
 use Rattle.page_cache.specs.Cached.{Cached, held_in, unsettled_in}
 use Rattle.client_calls.specs.declared.progress.Progress.{Progress}
 
--- the cache; how many pages may be held; how many processes there are; the block of the page of the next piece; how
--- far the process has come; whether the scheduler lets its call in; the number of requests so far
+-- the cache; how many pages may be held; how many processes there are; the live files; the blocks of the disk; the run
+-- that writeback has mapped and not added, if there is one; how far the process has come; whether the scheduler lets its
+-- call in; the number of requests so far
 pub record View : Type 0 where
   pub cache : Cached
   pub places : ℕ
   pub n : ℕ
-  pub block : Option ℕ
+  pub files : Files
+  pub blocks : Blocks
+  pub mapped : Option Run
   pub progress : Progress
   pub may_admit : Bool
   pub next_id : ReqId

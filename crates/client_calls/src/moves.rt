@@ -2,32 +2,33 @@
 ghost use Rattle.std.specs.Prelude.{◌≡◌};
 
 use crate::piece::Piece;
-use split_types::{Actor, Buf, Event, Pid, Reply, ReqId, ReqKind, Request, Serial};
+use crate::working_file::WorkingFile;
+use split_types::{Actor, Buf, Event, Pid, Reply, ReqId, ReqKind, Request};
 
 /// A piece of a file, and the process that puts or gets it.
 #[derive(Clone, Copy, Debug)]
 pub(crate) struct Move {
     pub(crate) by: Pid,
-    pub(crate) serial: Serial,
+    pub(crate) file: WorkingFile,
     pub(crate) piece: Piece,
 }
 
 impl Move {
     /// The page of the piece.
     pub(crate) fn buf(&self) -> Buf
-        ensures { result ≡ Buf.Page self.now.serial self.now.piece.page }
+        ensures { result ≡ Buf.Page self.now.file.serial self.now.piece.page }
     {
-        Buf::Page(self.serial, self.piece.page)
+        Buf::Page(self.file.serial, self.piece.page)
     }
 
     /// The bytes of the piece become `fill`.
     pub(crate) fn put(&self, fill: u8) -> Event
         ensures { let m = self.now in
-            result ≡ Event.Put m.by m.serial m.piece.page m.piece.from m.piece.to fill }
+            result ≡ Event.Put m.by m.file.serial m.piece.page m.piece.from m.piece.to fill }
     {
         Event::Put {
             by: self.by,
-            serial: self.serial,
+            serial: self.file.serial,
             page: self.piece.page,
             from: self.piece.from,
             to: self.piece.to,
@@ -38,11 +39,11 @@ impl Move {
     /// The bytes of the piece, which have this sum, are read.
     pub(crate) fn get(&self, sum: u64) -> Event
         ensures { let m = self.now in
-            result ≡ Event.Get m.by m.serial m.piece.page m.piece.from m.piece.to sum }
+            result ≡ Event.Get m.by m.file.serial m.piece.page m.piece.from m.piece.to sum }
     {
         Event::Get {
             by: self.by,
-            serial: self.serial,
+            serial: self.file.serial,
             page: self.piece.page,
             from: self.piece.from,
             to: self.piece.to,
@@ -54,7 +55,7 @@ impl Move {
     pub(crate) fn load(&self, id: ReqId, block: u32) -> Event
         ensures { let m = self.now in result ≡ Event.Add (Actor.Client m.by) (record {
           id = id;
-          kind = ReqKind.Read m.by m.serial m.piece.page;
+          kind = ReqKind.Read m.by m.file.serial m.piece.page;
           first = block;
           n = 1;
         }) }
@@ -63,7 +64,7 @@ impl Move {
             by: Actor::Client(self.by),
             req: Request {
                 id,
-                kind: ReqKind::Read(self.by, self.serial, self.piece.page),
+                kind: ReqKind::Read(self.by, self.file.serial, self.piece.page),
                 first: block,
                 n: 1,
             },
@@ -77,6 +78,16 @@ impl Move {
         Event::Ret {
             by: self.by,
             reply: Reply::ReadFault,
+        }
+    }
+
+    /// The call returns, since no block can be had for the page; it has put so many bytes.
+    pub(crate) fn stop(&self, moved: u32) -> Event
+        ensures { result ≡ Event.Ret self.now.by (Reply.NoSpace moved) }
+    {
+        Event::Ret {
+            by: self.by,
+            reply: Reply::NoSpace(moved),
         }
     }
 }

@@ -12,7 +12,9 @@ pub struct Progress {
     pub entered: bool,
     /// Whether it was let in.
     pub admitted: bool,
-    /// The file that it works on, where that is there.
+    /// Whether it made its file, or dropped it.
+    pub acted: bool,
+    /// The file that it was bound to when it was let in; that may have been dropped since.
     pub bound: Option<Serial>,
     /// The size of that file when the call was let in.
     pub size_at_admit: u32,

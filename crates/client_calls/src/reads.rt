@@ -1,6 +1,7 @@
 //! What comes next with a piece of a read.
 ghost use Rattle.std.specs.Prelude.{◌≡◌, ◌<◌, ◌≤◌};
 ghost use Rattle.split_types.specs.Clients.{PieceState, next_of_load, next_of_get};
+ghost use Rattle.client_calls.specs.CallFile.{IsThere};
 ghost use Rattle.client_calls.specs.Shows.{ShowsPiece};
 
 use crate::moves::Move;
@@ -10,7 +11,7 @@ use split_types::Event;
 
 /// In a page that isn't held, and has this block.
 fn next_of_load<S: TagStore>(m: &Move, v: &ClientView<'_, S>, block: u32) -> Option<Event>
-    ensures { (s : PieceState) → ShowsPiece m.now.by m.now.serial m.now.piece v.now s
+    ensures { (s : PieceState) → ShowsPiece m.now.by m.now.file.serial m.now.piece v.now s
         → result ≡ next_of_load s block }
 {
     if v.is_full() {
@@ -21,9 +22,10 @@ fn next_of_load<S: TagStore>(m: &Move, v: &ClientView<'_, S>, block: u32) -> Opt
 
 /// In any page.
 pub(crate) fn next_of_get<S: TagStore>(m: &Move, v: &ClientView<'_, S>) -> Option<Event>
+    requires there { IsThere v.now.files.slots m.now.file }
     requires order { m.now.piece.from < m.now.piece.to }
     requires within { m.now.piece.to ≤ 4096 }
-    ensures { (s : PieceState) → ShowsPiece m.now.by m.now.serial m.now.piece v.now s
+    ensures { (s : PieceState) → ShowsPiece m.now.by m.now.file.serial m.now.piece v.now s
         → result ≡ next_of_get s }
 {
     if v.progress.bad_read {
@@ -36,7 +38,7 @@ pub(crate) fn next_of_get<S: TagStore>(m: &Move, v: &ClientView<'_, S>) -> Optio
     if page.held {
         return Some(m.get(v.sum(m)));
     }
-    match v.block {
+    match v.block(m) {
         None => Some(m.get(0)),
         Some(block) => next_of_load(m, v, block),
     }

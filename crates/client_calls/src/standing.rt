@@ -13,6 +13,8 @@ pub(crate) struct Standing {
     pub(crate) held: bool,
     /// Whether its bytes are awaited.
     pub(crate) loading: bool,
+    /// Whether it is dirty.
+    pub(crate) dirty: bool,
     /// Whether it is dirty or busy.
     pub(crate) unsettled: bool,
 }
@@ -26,11 +28,13 @@ impl Standing {
             Some(state) => Standing {
                 held: true,
                 loading: state.loading,
+                dirty: state.dirty,
                 unsettled: state.dirty || state.busy,
             },
             None => Standing {
                 held: false,
                 loading: false,
+                dirty: false,
                 unsettled: false,
             },
         }

@@ -12,8 +12,10 @@ use crate::moves::Move;
 use crate::progress::Progress;
 use crate::standing::Standing;
 use cause_set::TagStore;
+use delayed_alloc::Alloc;
 use page_cache::Cache;
-use split_types::{Buf, Event, Pid, ReqId};
+use small_fs::Fs;
+use split_types::{Buf, Event, Pid, ReqId, Run};
 use std::marker::Model;
 
 /// What a process sees of the stack, and how far it has come itself.
@@ -25,8 +27,12 @@ pub struct ClientView<'a, S: TagStore> {
     pub places: u32,
     /// How many processes there are.
     pub n: u32,
-    /// The block of the page of the next piece of its call; none where that page has none.
-    pub block: Option<u32>,
+    /// The live files.
+    pub fs: &'a Fs,
+    /// Which blocks are free, and how many of them are promised.
+    pub alloc: &'a Alloc,
+    /// The run of pages that writeback has mapped, and whose request it hasn't added yet.
+    pub mapped: Option<Run>,
     /// How far it has come.
     pub progress: Progress,
     /// Whether the scheduler lets its call in.
@@ -44,7 +50,9 @@ impl<'a, S: TagStore> Model for ClientView<'a, S> {
       cache = v.cache.now;
       places = v.places;
       n = v.n;
-      block = v.block;
+      files = v.fs.now;
+      blocks = v.alloc.now;
+      mapped = v.mapped;
       progress = v.progress;
       may_admit = v.may_admit;
       next_id = v.next_id;
@@ -82,10 +90,10 @@ impl<'a, S: TagStore> ClientView<'a, S> {
 
     /// The sum of the bytes of a piece; those of its page are there.
     pub(crate) fn sum(&self, m: &Move) -> u64
-        requires loaded { IsLoaded self.now.cache (Buf.Page m.now.serial m.now.piece.page) }
+        requires loaded { IsLoaded self.now.cache (Buf.Page m.now.file.serial m.now.piece.page) }
         requires order { m.now.piece.from < m.now.piece.to }
         requires within { m.now.piece.to ≤ 4096 }
-        ensures { let bytes = bytes_in (page_of self.now.cache (Buf.Page m.now.serial m.now.piece.page)) in
+        ensures { let bytes = bytes_in (page_of self.now.cache (Buf.Page m.now.file.serial m.now.piece.page)) in
             result ≡ sum (slice_range bytes m.now.piece.from m.now.piece.to) }
     {
         self.cache.peek_sum(m.buf(), m.piece.from, m.piece.to)

@@ -1,6 +1,7 @@
 //! What comes next with a piece of a write.
 ghost use Rattle.std.specs.Prelude.{◌≡◌};
 ghost use Rattle.split_types.specs.Clients.{PieceState, next_of_absent, next_of_put};
+ghost use Rattle.client_calls.specs.CallFile.{IsThere};
 ghost use Rattle.client_calls.specs.Shows.{ShowsPiece};
 
 use crate::moves::Move;
@@ -10,13 +11,14 @@ use split_types::Event;
 
 /// In a page that isn't held, while a place is free.
 fn next_of_absent<S: TagStore>(m: &Move, v: &ClientView<'_, S>, fill: u8) -> Option<Event>
-    ensures { (s : PieceState) → ShowsPiece m.now.by m.now.serial m.now.piece v.now s
+    requires { IsThere v.now.files.slots m.now.file }
+    ensures { (s : PieceState) → ShowsPiece m.now.by m.now.file.serial m.now.piece v.now s
         → result ≡ next_of_absent s fill }
 {
     if m.piece.is_whole() {
         return Some(m.put(fill));
     }
-    match v.block {
+    match v.block(m) {
         None => Some(m.put(fill)),
         Some(block) => Some(m.load(v.next_id, block)),
     }
@@ -24,7 +26,8 @@ fn next_of_absent<S: TagStore>(m: &Move, v: &ClientView<'_, S>, fill: u8) -> Opt
 
 /// In any page.
 pub(crate) fn next_of_put<S: TagStore>(m: &Move, v: &ClientView<'_, S>, fill: u8) -> Option<Event>
-    ensures { (s : PieceState) → ShowsPiece m.now.by m.now.serial m.now.piece v.now s
+    requires { IsThere v.now.files.slots m.now.file }
+    ensures { (s : PieceState) → ShowsPiece m.now.by m.now.file.serial m.now.piece v.now s
         → result ≡ next_of_put s fill }
 {
     if v.progress.bad_read {
@@ -33,6 +36,12 @@ pub(crate) fn next_of_put<S: TagStore>(m: &Move, v: &ClientView<'_, S>, fill: u8
     let page = v.standing(m.buf());
     if page.loading {
         return None;
+    }
+    if v.is_mapped(m) {
+        return None;
+    }
+    if v.lacks_space(m, page) {
+        return Some(m.stop(v.progress.moved));
     }
     if v.holds_up(page) {
         return None;

@@ -1,0 +1,2 @@
+pub mod ServedRun
+pub mod Starts
