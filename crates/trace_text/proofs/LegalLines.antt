@@ -1,43 +1,54 @@
 -- The events of a legal history have lines.
-use Rattle.std.proofs.Common.{◌≡◌, ℕ, ◌-◌, ◌*◌, ◌<◌, ◌≤◌, ◌^◌, ◌∙◌, ◌&&◌, true, List, [], ◌∷◌, length}
-use Rattle.std.proofs.Common.{slice_get, Some, ap, refl, sym, arith}
-use Rattle.std.proofs.lemmas.Bool.{lt-ltb}
+use Rattle.std.proofs.Common.{◌≡◌, ℕ, ◌+◌, ◌-◌, ◌*◌, ◌==◌, ◌<◌, ◌≤◌, ◌^◌, ◌∙◌, ◌&&◌, ◌||◌, max, nat_le, nat_lt, Bool}
+use Rattle.std.proofs.Common.{true, false, List, [], ◌∷◌, length, slice_get, Option, Some, IsTrue, ap, refl, sym, subst}
+use Rattle.std.proofs.Common.{arith, if◌then◌else◌}
+use Rattle.std.proofs.lemmas.Bool.{lt-ltb, eq-eqb}
+use Rattle.std.proofs.lemmas.Bool.Decides.{nat_tests}
 use Rattle.std.proofs.lemmas.Option.{slice_get_within}
 use Rattle.std.specs.List.{list_all}
 use Rattle.split_types.specs.declared.ids.Pid.{Pid}
 use Rattle.split_types.specs.declared.ids.Serial.{Serial}
+use Rattle.split_types.specs.declared.ids.Slot.{Slot}
 use Rattle.split_types.specs.declared.buf.Buf.TheVariants.{Page}
 use Rattle.split_types.specs.declared.call.Call.{Call}
 use Rattle.split_types.specs.declared.call.Call.TheVariants.{Read}
 use Rattle.split_types.specs.declared.request.Request.{Request}
 use Rattle.split_types.specs.declared.request.Run.{Run}
+use Rattle.split_types.specs.declared.request.Service.TheVariants.{Serving}
 use Rattle.split_types.specs.declared.workload.Workload.{Workload}
 use Rattle.split_types.specs.declared.event.Event.{Event}
-use Rattle.split_types.specs.declared.event.Event.TheVariants.{Put}
+use Rattle.split_types.specs.declared.event.Event.TheVariants.{Make, Put, Serve}
 use Rattle.split_types.specs.History.{◌▹◌, adds}
 use Rattle.split_types.specs.Hooks.{maker}
 use Rattle.split_types.specs.IsWorkload.{most_processes}
-use Rattle.split_types.specs.Workloads.{calls_of, pages_in}
+use Rattle.split_types.specs.Workloads.{calls_of}
 use Rattle.split_types.specs.Calls.{returned, moved}
-use Rattle.split_types.specs.FileMaps.{mapped_block}
+use Rattle.split_types.specs.EventText.{flag}
+use Rattle.split_types.specs.Files.{is_live, bound_file}
+use Rattle.split_types.specs.FileMaps.{mapped_block, makes, free_blocks}
+use Rattle.split_types.specs.FileSizes.{disk_size_of}
+use Rattle.split_types.specs.FileSlots.{slot_of, next_serial}
+use Rattle.split_types.specs.FilesInOrder.{all_files}
+use Rattle.split_types.specs.MapsInOrder.{IsServed}
 use Rattle.split_types.specs.PageBytes.{sum_of_bytes}
 use Rattle.split_types.specs.Pieces.{Piece, got}
 use Rattle.split_types.specs.Requests.{in_flight}
 use Rattle.split_types.specs.Victims.{victim}
 use Rattle.split_types.specs.CostAndClock.{head, cost_at, distance}
-use Rattle.split_types.specs.Writeback.{service, served_run, run_length, request_for}
+use Rattle.split_types.specs.Writeback.{service, served_run}
+use Rattle.split_types.specs.Serving.{service_state, bytes_up_to, map_of}
 use Rattle.split_types.specs.Accepted.{IsAccepted}
 use Rattle.split_types.specs.Legal.{IsLegal}
-use Rattle.split_types.specs.Proving.Came.{Came, HasCall, IsAtPiece, read_request}
-use Rattle.split_types.specs.Proving.Came.Came.{came_enter, came_admit, came_no_file, came_wrote, came_read}
-use Rattle.split_types.specs.Proving.Came.Came.{came_fault, came_put, came_get, came_zeros, came_evict, came_load}
-use Rattle.split_types.specs.Proving.Came.Came.{came_serve, came_add, came_send, came_done}
+use Rattle.split_types.specs.Proving.Came.{Came, HasCall, IsAtPiece}
+use Rattle.split_types.specs.Proving.Came.Came.{came_enter, came_admit, came_changed, came_exists, came_no_slot, came_make}
+use Rattle.split_types.specs.Proving.Came.Came.{came_drop, came_no_file, came_too_big, came_wrote, came_read, came_fault}
+use Rattle.split_types.specs.Proving.Came.Came.{came_no_space, came_put, came_get, came_zeros, came_evict, came_load}
+use Rattle.split_types.specs.Proving.Came.Came.{came_serve, came_skip, came_map, came_grow, came_add, came_send, came_done}
 use Rattle.split_types.specs.Proving.Known.{Known}
-use Rattle.split_types.specs.Proving.Runs.{readiness, IsPresetRun}
-use Rattle.split_types.proofs.Shared.{came, known, queued_of, flight_of, run_within, moves_served, moves_load}
-use Rattle.split_types.proofs.Shared.{calls_most, short, adds_most, put_in, moved_most, first_ready, serve_run}
+use Rattle.split_types.proofs.Shared.{came, known, maps_known, files_are_in_order, queued_of, flight_of}
+use Rattle.split_types.proofs.Shared.{calls_most, short, adds_most, put_in, live_of, free_is, moved_most}
 use Rattle.split_types.proofs.Shared.{seek_most, picks_first}
-use Rattle.split_types.proofs.Shared.{mapped_is, pages_most, sum_most, got_most, get_in, victim_file}
+use Rattle.split_types.proofs.Shared.{sum_most, got_most, size_most, disk_size_most, get_in, victim_file}
 use Rattle.workload_reader.specs.Table.{IsOneOf}
 use Rattle.trace_text.specs.EventLines.{is_small, is_wide, AreInRange}
 use Rattle.trace_text.specs.ReadsEvent.{HasLine}
@@ -62,25 +73,60 @@ client w h p c accepted call = record {
   most = omega (arith, call.last, accepted.workload.processes.few);
 }
 
--- a page of a preset file
-page_small : (w : Workload) (s : Serial) (g : ℕ) (ns : List ℕ) → IsAccepted w → s.0 < length w.files
-    → g < pages_in w s.0 → list_all is_small ns ≡ true → list_all is_small (s.0 ∷ g ∷ ns) ≡ true
-page_small w s g ns accepted file page small =
-    small_more s.0 (g ∷ ns) (omega (arith, file, accepted.workload.presets.few))
-    (small_more g ns (omega (arith, page, pages_most w s.0 accepted)) small)
+-- each file but the preset ones was made
+makes_most : (h : List Event) → makes h ≤ length h
+makes_most [] = omega arith
+makes_most (h ▹ Make by slot serial) = omega (arith, makes_most h)
+makes_most (h ▹ e) = omega (arith, makes_most h)
 
--- the number of the first page of a run
-run_small : (w : Workload) (s : Serial) (g n : ℕ) (ns : List ℕ) → IsAccepted w → IsPresetRun w s g n
-    → list_all is_small ns ≡ true → list_all is_small (s.0 ∷ g ∷ ns) ≡ true
-run_small w s g n ns accepted run small =
-    page_small w s g ns accepted run.file (omega (arith, run.within, run.some)) small
+-- so there were few
+few_files : (w : Workload) (h : List Event) → IsAccepted w → IsLegal w h → all_files w h < 2 ^ 32
+few_files w h accepted legal =
+    omega (arith, accepted.workload.presets.few, makes_most h, short w h accepted legal)
 
-put_line : (w : Workload) (h : List Event) (by : Pid) (s : Serial) (g start end fill : ℕ) → IsAccepted w → Known w h
-    → Came w h (Put by s g start end fill) → AreInRange (s.0 ∷ g ∷ start ∷ end ∷ fill ∷ []) []
-put_line w h by s g start end fill accepted f c =
-    let p = put_in w h by s g start end fill accepted f c in
+-- a page that a file may have
+page_small : (w : Workload) (h : List Event) (s : Serial) (g : ℕ) (ns : List ℕ) → IsAccepted w → IsLegal w h
+    → s.0 < all_files w h → g < 1008 → list_all is_small ns ≡ true → list_all is_small (s.0 ∷ g ∷ ns) ≡ true
+page_small w h s g ns accepted legal file page small =
+    small_more s.0 (g ∷ ns) (omega (arith, file, few_files w h accepted legal))
+    (small_more g ns (omega (arith, page)) small)
+
+-- a page of a file that is there
+live_page : (w : Workload) (h : List Event) (s : Serial) (g : ℕ) (ns : List ℕ) → IsAccepted w → IsLegal w h
+    → IsTrue (is_live w h s.0) → g < 1008 → list_all is_small ns ≡ true → list_all is_small (s.0 ∷ g ∷ ns) ≡ true
+live_page w h s g ns accepted legal live page small =
+    page_small w h s g ns accepted legal ((files_are_in_order w h accepted legal).live s live).numbered page small
+
+-- a file that is there, in its slot
+file_small : (w : Workload) (h : List Event) (s : Serial) (ns : List ℕ) → IsAccepted w → IsLegal w h
+    → IsTrue (is_live w h s.0) → list_all is_small ns ≡ true
+    → list_all is_small ((slot_of w h s).0 ∷ s.0 ∷ ns) ≡ true
+file_small w h s ns accepted legal live small =
+    let file = (files_are_in_order w h accepted legal).live s live in
+    small_more (slot_of w h s).0 (s.0 ∷ ns) (omega (arith, file.slot_within))
+    (small_more s.0 ns (omega (arith, file.numbered, few_files w h accepted legal)) small)
+
+-- the file that is made: it is there then
+make_line : (w : Workload) (h : List Event) (p : Pid) (slot : Slot) (s : Serial) → IsAccepted w
+    → IsLegal w (h ▹ Make p slot s) → AreInRange (slot.0 ∷ s.0 ∷ []) []
+make_line w h p slot s accepted legal =
+    let self : (s.0 == s.0) ≡ true = eq-eqb s.0 s.0 refl in
+    let live : is_live w (h ▹ Make p slot s) s.0 ≡ true = ap (λ b. b || is_live w h s.0) self in
+    let here : slot_of w (h ▹ Make p slot s) s ≡ slot =
+    ap (λ b. elim b [ true ↦ slot | false ↦ slot_of w h s ]) self in
     record {
-      small = page_small w s g (start ∷ end ∷ fill ∷ []) accepted p.file p.page
+      small =
+          subst (λ k. list_all is_small (k.0 ∷ s.0 ∷ []) ≡ true) here
+          (file_small w (h ▹ Make p slot s) s [] accepted legal live refl);
+      wide = refl;
+    }
+
+put_line : (w : Workload) (h : List Event) (by : Pid) (s : Serial) (g start end fill : ℕ) → IsAccepted w → IsLegal w h
+    → Came w h (Put by s g start end fill) → AreInRange (s.0 ∷ g ∷ start ∷ end ∷ fill ∷ []) []
+put_line w h by s g start end fill accepted legal c =
+    let p = put_in w h by s g start end fill accepted c in
+    record {
+      small = live_page w h s g (start ∷ end ∷ fill ∷ []) accepted legal p.file p.page
           (small_more start (end ∷ fill ∷ []) (omega (arith, p.some, p.to_most))
           (small_more end (fill ∷ []) (omega (arith, p.to_most))
           (small_more fill [] (omega (arith, p.fill_most)) refl)));
@@ -95,11 +141,18 @@ get_line : (w : Workload) (h : List Event) (p : Pid) (name : List ℕ) (off len 
 get_line w h p name off len s piece sum accepted legal here most =
     let at = get_in w h p name off len s piece accepted legal here in
     record {
-      small = page_small w s piece.page (piece.from ∷ piece.to ∷ []) accepted at.file at.page
+      small = live_page w h s piece.page (piece.from ∷ piece.to ∷ []) accepted legal at.file at.page
           (small_more piece.from (piece.to ∷ []) (omega (arith, at.some, at.most))
           (small_more piece.to [] (omega (arith, at.most)) refl));
       wide = one_wide sum (omega (arith, most, at.most));
     }
+
+-- what a process has moved
+moved_line : (w : Workload) (h : List Event) (p : ℕ) → IsAccepted w → IsLegal w h → AreInRange (moved h p ∷ []) []
+moved_line w h p accepted legal = record {
+  small = small_more (moved h p) [] (omega (arith, moved_most w h p accepted legal)) refl;
+  wide = refl;
+}
 
 -- what a read returns
 read_line : (w : Workload) (h : List Event) (p : ℕ) → IsAccepted w → IsLegal w h
@@ -116,32 +169,89 @@ evict_line : (w : Workload) (h : List Event) (s : Serial) (g : ℕ) → IsAccept
     → victim w h ≡ Some (Page s g) → AreInRange (s.0 ∷ g ∷ []) []
 evict_line w h s g accepted legal found =
     let at = victim_file w h s g accepted legal found in
-    record { small = page_small w s g [] accepted at.0 at.1 refl; wide = refl }
+    record { small = page_small w h s g [] accepted legal at.0 at.1 refl; wide = refl }
+
+-- a block of a page
+block_most : (w : Workload) (h : List Event) (s g block : ℕ) → IsAccepted w → IsLegal w h
+    → mapped_block w h s g ≡ Some block → block < 32768
+block_most w h s g block accepted legal at =
+    omega (arith, ((maps_known.maps w h accepted legal).placed s g block at).to, accepted.workload.machine.device_most)
 
 -- the read of a page
-load_line : (w : Workload) (h : List Event) (p : Pid) (s : Serial) (g block : ℕ) → IsAccepted w → IsLegal w h
+load_line : (w : Workload) (h : List Event) (s : Serial) (g block : ℕ) → IsAccepted w → IsLegal w h
     → mapped_block w h s.0 g ≡ Some block → AreInRange (block ∷ 1 ∷ s.0 ∷ g ∷ []) []
-load_line w h p s g block accepted legal at =
-    let preset = mapped_is w h s g block accepted legal at in
-    let moves = moves_load w (adds h) p s g block (sym ((known w h accepted legal).maps s.0 g) ∙ at) in
-    let within = run_within w (read_request (adds h) p s g block) accepted moves in
+load_line w h s g block accepted legal at =
+    let is = (maps_known.maps w h accepted legal).placed s.0 g block at in
     record {
-      small = small_more block (1 ∷ s.0 ∷ g ∷ []) (omega (arith, within))
+      small = small_more block (1 ∷ s.0 ∷ g ∷ []) (omega (arith, block_most w h s.0 g block accepted legal at))
           (small_more 1 (s.0 ∷ g ∷ []) (omega arith)
-          (page_small w s g [] accepted preset.file preset.page refl));
+          (page_small w h s g [] accepted legal is.numbered is.page refl));
       wide = refl;
     }
 
-add_line : (w : Workload) (h : List Event) (run : Run) → IsAccepted w → Known w h → served_run (service h) ≡ Some run
-    → (let r = request_for w (adds h) run in AreInRange (r.first ∷ r.n ∷ run.serial.0 ∷ run.page ∷ []) [])
-add_line w h run accepted f served =
-    let r = request_for w (adds h) run in
-    let moves = moves_served w (readiness w h) (adds h) run (f.serves run served) in
-    let within = run_within w r accepted moves in
+-- the first page of a run that may be served
+run_small : (w : Workload) (h : List Event) (run : Run) (ns : List ℕ) → IsAccepted w → IsLegal w h → IsServed w h run
+    → list_all is_small ns ≡ true → list_all is_small (run.serial.0 ∷ run.page ∷ ns) ≡ true
+run_small w h run ns accepted legal served small =
+    page_small w h run.serial run.page ns accepted legal served.numbered
+    (omega (arith, served.within, served.some)) small
+
+-- the run that is served
+serve_line : (w : Workload) (h : List Event) (s : Serial) (g n : ℕ) → IsAccepted w → IsLegal w (h ▹ Serve s g n)
+    → AreInRange (s.0 ∷ g ∷ n ∷ []) []
+serve_line w h s g n accepted legal =
+    let run : Run = record { serial = s; page = g; n = n } in
+    let served = maps_known.served w (h ▹ Serve s g n) run accepted legal refl in
     record {
-      small = small_more r.first (r.n ∷ run.serial.0 ∷ run.page ∷ []) (omega (arith, within))
-          (small_more r.n (run.serial.0 ∷ run.page ∷ []) (omega (arith, within))
-          (run_small w run.serial run.page run.n [] accepted (f.serves run served).run_is refl));
+      small = run_small w (h ▹ Serve s g n) run (n ∷ []) accepted legal served
+          (small_more n [] (omega (arith, served.most)) refl);
+      wide = refl;
+    }
+
+-- the first page of a map gets its first block
+first_mapped : (t page n block : ℕ) (old : Option ℕ) → 1 ≤ n
+    → (if t == t && nat_le page page && nat_lt page (page + n) then Some (block + (page - page)) else old)
+    ≡ Some block
+first_mapped t page n block old some = grind (arith, nat_tests)
+
+flag_small : (b : Bool) → flag b < 2 ^ 32
+flag_small true = omega arith
+flag_small false = omega arith
+
+-- the map of the first pages of the run that is served
+map_line : (w : Workload) (h : List Event) (run : Run) (n block : ℕ) (new : Bool) → IsAccepted w
+    → IsLegal w (h ▹ map_of (service_state w h run) n block new) → service h ≡ Serving run
+    → IsTrue (is_live w h run.serial.0) → 1 ≤ n → n ≤ run.n
+    → AreInRange ((slot_of w h run.serial).0 ∷ run.serial.0 ∷ run.page ∷ n ∷ block ∷ flag new
+    ∷ max (disk_size_of w h run.serial.0) (bytes_up_to (service_state w h run) n) ∷ []) []
+map_line w h run n block new accepted legal serving live some most =
+    let state = service_state w h run in
+    let served = maps_known.served w h run accepted legal.1 (ap served_run serving) in
+    let first = first_mapped run.serial.0 run.page n block (mapped_block w h run.serial.0 run.page) some in
+    let block_few =
+    block_most w (h ▹ map_of state n block new) run.serial.0 run.page block accepted legal first in
+    let size = max (disk_size_of w h run.serial.0) (bytes_up_to state n) in
+    let size_few : size < 2 ^ 32 =
+    omega (arith, disk_size_most w h run.serial.0 legal.1, size_most w h run.serial.0 accepted legal.1) in
+    record {
+      small = file_small w h run.serial (run.page ∷ n ∷ block ∷ flag new ∷ size ∷ []) accepted legal.1 live
+          (small_more run.page (n ∷ block ∷ flag new ∷ size ∷ []) (omega (arith, served.within))
+          (small_more n (block ∷ flag new ∷ size ∷ []) (omega (arith, most, served.most))
+          (small_more block (flag new ∷ size ∷ []) (omega (arith, block_few))
+          (small_more (flag new) (size ∷ []) (flag_small new) (small_more size [] size_few refl)))));
+      wide = refl;
+    }
+
+add_line : (w : Workload) (h : List Event) (run : Run) (block : ℕ) → IsAccepted w → IsLegal w h
+    → served_run (service h) ≡ Some run → mapped_block w h run.serial.0 run.page ≡ Some block
+    → AreInRange (block ∷ run.n ∷ run.serial.0 ∷ run.page ∷ []) []
+add_line w h run block accepted legal serves at =
+    let served = maps_known.served w h run accepted legal serves in
+    record {
+      small = small_more block (run.n ∷ run.serial.0 ∷ run.page ∷ [])
+          (omega (arith, block_most w h run.serial.0 run.page block accepted legal at))
+          (small_more run.n (run.serial.0 ∷ run.page ∷ []) (omega (arith, served.most))
+          (run_small w h run [] accepted legal served refl));
       wide = refl;
     }
 
@@ -165,8 +275,13 @@ done_line w h k r accepted legal f flies =
       wide = refl;
     }
 
+-- a call returns with nothing to count
+returns : (w : Workload) (h : List Event) (p : Pid) (c : Call) → IsAccepted w → HasCall w h p c
+    → IsOneOf (most_processes w) p.0 × AreInRange [] []
+returns w h p c accepted call = (client w h p c accepted call, record { small = refl; wide = refl })
+
 -- what comes next has its line
-has_line : (w : Workload) (h : List Event) (e : Event) → IsAccepted w → IsLegal w h → Came w h e
+has_line : (w : Workload) (h : List Event) (e : Event) → IsAccepted w → IsLegal w (h ▹ e) → Came w h e
     → HasLine (most_processes w) (adds h) e
 has_line w h e accepted legal (came_enter p c call out) =
     let left = slice_get_within (calls_of w p.0) (returned h p.0) c call.call in
@@ -182,25 +297,51 @@ has_line w h e accepted legal (came_enter p c call out) =
       );
     }
 has_line w h e accepted legal (came_admit p c call in' out may) =
-    record { formed = tt; range = (client w h p c accepted call, record { small = refl; wide = refl }) }
+    record { formed = tt; range = returns w h p c accepted call }
+has_line w h e accepted legal (came_changed p c admitted names acted) =
+    record { formed = tt; range = returns w h p c accepted admitted.has }
+has_line w h e accepted legal (came_exists p name admitted idle taken) =
+    record { formed = tt; range = returns w h p _ accepted admitted.has }
+has_line w h e accepted legal (came_no_slot p name admitted idle unused none) =
+    record { formed = tt; range = returns w h p _ accepted admitted.has }
+has_line w h e accepted legal (came_make p name slot admitted idle unused at) =
+    record {
+      formed = tt;
+      range = (
+        client w h p _ accepted admitted.has,
+        make_line w h p (record { 0 = slot }) (next_serial w h) accepted legal,
+      );
+    }
+has_line w h e accepted legal (came_drop p name s working idle) =
+    let live = live_of w h (bound_file w h p.0) s working.file in
+    record {
+      formed = tt;
+      range = (
+        client w h p _ accepted working.admitted.has,
+        record { small = file_small w h s [] accepted legal.1 live refl; wide = refl },
+      );
+    }
 has_line w h e accepted legal (came_no_file p c admitted none) =
-    record { formed = tt; range = (client w h p c accepted admitted.has, record { small = refl; wide = refl }) }
-has_line w h e accepted legal (came_wrote p name off len fill s working none) = record {
-  formed = tt;
-  range = (client w h p _ accepted working.admitted.has, record { small = refl; wide = refl });
-}
+    record { formed = tt; range = returns w h p c accepted admitted.has }
+has_line w h e accepted legal (came_too_big p name off len fill s working big) =
+    record { formed = tt; range = returns w h p _ accepted working.admitted.has }
+has_line w h e accepted legal (came_wrote p name off len fill s working none) =
+    record { formed = tt; range = returns w h p _ accepted working.admitted.has }
 has_line w h e accepted legal (came_read p name off len s working none) =
-    record { formed = tt; range = (client w h p _ accepted working.admitted.has, read_line w h p.0 accepted legal) }
-has_line w h e accepted legal (came_fault p c s piece working left bad) = record {
-  formed = tt;
-  range = (client w h p c accepted working.admitted.has, record { small = refl; wide = refl });
-}
+    record { formed = tt; range = (client w h p _ accepted working.admitted.has, read_line w h p.0 accepted legal.1) }
+has_line w h e accepted legal (came_fault p c s piece working left bad) =
+    record { formed = tt; range = returns w h p c accepted working.admitted.has }
+has_line w h e accepted legal (came_no_space p name off len fill s piece here out none) =
+    record {
+      formed = tt;
+      range = (client w h p _ accepted here.working.admitted.has, moved_line w h p.0 accepted legal.1);
+    }
 has_line w h e accepted legal (came_put p name off len fill s piece here may) =
     record {
       formed = tt;
       range = (
         client w h p _ accepted here.working.admitted.has,
-        put_line w h p s piece.page piece.from piece.to fill accepted (known w h accepted legal)
+        put_line w h p s piece.page piece.from piece.to fill accepted legal.1
             (came_put p name off len fill s piece here may),
       );
     }
@@ -209,8 +350,8 @@ has_line w h e accepted legal (came_get p name off len s piece here held) =
       formed = tt;
       range = (
         client w h p _ accepted here.working.admitted.has,
-        get_line w h p name off len s piece (sum_of_bytes w h s piece.page piece.from piece.to) accepted legal here
-            (sum_most w h s piece.page piece.from piece.to accepted legal),
+        get_line w h p name off len s piece (sum_of_bytes w h s piece.page piece.from piece.to) accepted legal.1 here
+            (sum_most w h s piece.page piece.from piece.to accepted legal.1),
       );
     }
 has_line w h e accepted legal (came_zeros p name off len s piece here absent none) =
@@ -218,47 +359,54 @@ has_line w h e accepted legal (came_zeros p name off len s piece here absent non
       formed = tt;
       range = (
         client w h p _ accepted here.working.admitted.has,
-        get_line w h p name off len s piece 0 accepted legal here (omega arith),
+        get_line w h p name off len s piece 0 accepted legal.1 here (omega arith),
       );
     }
 has_line w h e accepted legal (came_evict p c s piece here absent t g found) =
     record {
       formed = tt;
-      range = (client w h p c accepted here.working.admitted.has, evict_line w h t g accepted legal found);
+      range = (client w h p c accepted here.working.admitted.has, evict_line w h t g accepted legal.1 found);
     }
 has_line w h e accepted legal (came_load p c s piece here absent block at) =
     record {
       formed = (refl, (refl, refl));
       range = (
         client w h p c accepted here.working.admitted.has,
-        load_line w h p s piece.page block accepted legal at,
+        load_line w h s piece.page block accepted legal.1 at,
       );
     }
-has_line w h e accepted legal (came_serve s g idle found) =
-    let run = serve_run w h s g (first_ready w h s g found) in
+has_line w h e accepted legal (came_serve run idle found) =
+    record { formed = tt; range = (tt, serve_line w h run.serial run.page run.n accepted legal) }
+has_line w h e accepted legal (came_skip run serves gone) =
+    record { formed = tt; range = (tt, record { small = refl; wide = refl }) }
+has_line w h e accepted legal (came_map run free serving live none found) =
+    let served = maps_known.served w h run accepted legal.1 (ap served_run serving) in
+    let is = free_is (free_blocks w h) run.n free found in
     record {
       formed = tt;
       range = (
         tt,
-        record {
-          small = run_small w s g (run_length w h s g) (run_length w h s g ∷ []) accepted run
-              (small_more (run_length w h s g) [] (omega (arith, run.most)) refl);
-          wide = refl;
-        },
+        map_line w h run free.n free.first true accepted legal serving live (is.some served.some) is.most,
       );
     }
-has_line w h e accepted legal (came_add run served) =
-    record { formed = (refl, refl); range = (tt, add_line w h run accepted (known w h accepted legal) served) }
+has_line w h e accepted legal (came_grow run block serving live at short) =
+    let served = maps_known.served w h run accepted legal.1 (ap served_run serving) in
+    record {
+      formed = tt;
+      range = (tt, map_line w h run run.n block false accepted legal serving live served.some (omega arith));
+    }
+has_line w h e accepted legal (came_add run block serves live at grown) =
+    record { formed = (refl, refl); range = (tt, add_line w h run block accepted legal.1 serves at) }
 has_line w h e accepted legal (came_send r free picked) =
-    let f = known w h accepted legal in
+    let f = known w h accepted legal.1 in
     let of = queued_of w h 0 r f (sym (picks_first w h accepted f) ∙ picked) in
-    record { formed = tt; range = (tt, send_line w h r accepted legal of.below of.run.run.most) }
+    record { formed = tt; range = (tt, send_line w h r accepted legal.1 of.below of.run.run.most) }
 has_line w h e accepted legal (came_done k r flies) =
-    record { formed = tt; range = (tt, done_line w h k r accepted legal (known w h accepted legal) flies) }
+    record { formed = tt; range = (tt, done_line w h k r accepted legal.1 (known w h accepted legal.1) flies) }
 
 pub legal_lines : (w : Workload) (h : List Event) → IsAccepted w → IsLegal w h → HaveLines (most_processes w) h
 legal_lines w [] accepted legal = tt
 legal_lines w (h ▹ e) accepted legal = (
   legal_lines w h accepted legal.1,
-  has_line w h e accepted legal.1 (came w h (maker e) e legal.0),
+  has_line w h e accepted legal (came w h (maker e) e legal.0),
 )

@@ -10,13 +10,9 @@ use Rattle.std.proofs.lemmas.List.Sums.{sum_by-append, sum_by-cons}
 use Rattle.std.specs.Str.{bytes_eq}
 use Rattle.split_types.specs.declared.actor.Actor.{Actor}
 use Rattle.split_types.specs.declared.actor.Actor.TheVariants as actor
-use Rattle.split_types.specs.declared.ids.Pid.{Pid}
 use Rattle.split_types.specs.declared.call.Call.{Call}
 use Rattle.split_types.specs.declared.call.Call.TheVariants as call
-use Rattle.split_types.specs.declared.workload.Account.{Account}
-use Rattle.split_types.specs.declared.workload.Process.{Process}
 use Rattle.split_types.specs.declared.workload.Preset.{Preset}
-use Rattle.split_types.specs.declared.workload.Go.{Go}
 use Rattle.split_types.specs.declared.workload.Workload.{Workload}
 use Rattle.split_types.specs.Names.{is_name}
 use Rattle.split_types.specs.Calls.{name_of}
@@ -153,16 +149,11 @@ call_range (call.Read name off len) asked =
     record { off_most = asked.off_most; len_least = asked.len_least; len_most = asked.len_most }
 call_range c asked = tt
 
-with_calls : (w : Workload) (calls : List (Pid × Call)) (c : Call) → IsBuiltCall w c → IsBuiltCall (put_calls w calls) c
-with_calls w calls (call.Write name off len fill) h = h
-with_calls w calls (call.Read name off len) h = tt
-with_calls w calls c h = absurd h
-
 each_call : (w : Workload) → IsAccepted w → EachRight call_line (put_calls w) w.calls
 each_call w h ys c zs is =
     let q = all_mid (IsCall (length w.procs)) ys c zs
     (subst (All (IsCall (length w.procs))) is h.workload.calls.each) in
-    let built = all_mid (λ c. IsBuiltCall w c.1) ys c zs (subst (All (λ c. IsBuiltCall w c.1)) is h.built.calls) in
+    let built = all_mid (λ c. IsBuiltCall c.1) ys c zs (subst (All (λ c. IsBuiltCall c.1)) is h.built.calls) in
     let few = few_mid w.calls ys c zs is in
     let pages = sum_mid (λ c. span c.1) w.calls ys c zs is in (
       call_named c.1 q.asked,
@@ -172,7 +163,7 @@ each_call w h ys c zs is =
         new = tt;
         few = (omega (arith, few, h.workload.calls.few), omega (arith, pages, h.workload.calls.few_pages));
         fits = tt;
-        built = with_calls w ys c.1 built;
+        built = built;
       },
     )
 

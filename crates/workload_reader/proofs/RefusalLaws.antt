@@ -1,18 +1,17 @@
 -- A text has one refusal, or is that of one workload.
-use Rattle.std.proofs.Common.{◌≡◌, ◌≢◌, ℕ, ◌+◌, ◌<◌, ◌≤◌, ◌==◌, ◌∙◌, ◌⊎◌, inl, inr, List, [], ◌∷◌, ◌++◌, length, true}
+use Rattle.std.proofs.Common.{◌≡◌, ◌≢◌, ℕ, ◌==◌, ◌∙◌, ◌⊎◌, inl, inr, List, [], ◌∷◌, ◌++◌, length, true}
 use Rattle.std.proofs.Common.{false}
 use Rattle.std.proofs.Common.{ap, refl, sym, subst, arith, append_assoc, Bool, ◌||◌}
 use Rattle.std.proofs.lemmas.Bool.{false≢true}
 use Rattle.std.proofs.lemmas.Bool.Decides.{nat_tests}
-use Rattle.std.specs.List.{list_any}
 use Rattle.split_types.specs.declared.workload.Workload.{Workload}
 use Rattle.split_types.specs.Lines.{line, fields}
 use Rattle.workload_reader.specs.declared.cause.Cause.{Cause}
 use Rattle.workload_reader.specs.declared.cause.Cause.TheVariants as cause
 use Rattle.workload_reader.specs.declared.line.Line.{Line}
-use Rattle.workload_reader.specs.Line.{IsFormed, place, stands, stage, has_ended, text_line, line_words, lines_text}
+use Rattle.workload_reader.specs.Line.{IsFormed, place, stands, stage, has_ended, text_line, line_words}
 use Rattle.workload_reader.specs.Line.{said}
-use Rattle.workload_reader.specs.Refusal.{AreRight, has_newline, Stops, ReadsFront, RefusesFront}
+use Rattle.workload_reader.specs.Refusal.{has_newline, Stops, ReadsFront, RefusesFront}
 use Rattle.workload_reader.specs.Table.{IsRight, Fails}
 use Rattle.workload_reader.proofs.LinesAlike.{line_alike}
 use Rattle.workload_reader.proofs.Walks.{Goes, Follows, one_goes, goes_on}

@@ -1,5 +1,5 @@
 -- What right lines say is an accepted workload.
-use Rattle.std.proofs.Common.{◌≡◌, ℕ, suc, ◌+◌, ◌<◌, ◌≤◌, ◌==◌, ◌∙◌, true, List, [], ◌∷◌, ◌++◌, All, AllPairs, IsTrue}
+use Rattle.std.proofs.Common.{◌≡◌, ℕ, suc, ◌+◌, ◌<◌, ◌≤◌, ◌==◌, ◌∙◌, Bool, true, false, List, [], ◌∷◌, ◌++◌, All, AllPairs, IsTrue}
 use Rattle.std.proofs.Common.{IsFalse, sum_by, length, arith, refl, sym, ap, subst, length-append, nat_lt}
 use Rattle.std.proofs.Common.{if◌then◌else◌}
 use Rattle.std.proofs.lemmas.List.{append_assoc, append-nil}
@@ -165,16 +165,11 @@ one_file w files f formed right so = record {
   fit = omega (arith, right.fits, sum_by_push (λ f. f.pages) files f);
 }
 
-without_calls : (w : Workload) (calls : List (Pid × Call)) (c : Call) → IsBuiltCall (put_calls w calls) c → IsBuiltCall w c
-without_calls w calls (call.Write name off len fill) h = h
-without_calls w calls (call.Read name off len) h = tt
-without_calls w calls c h = absurd h
-
 record CallsSoFar (w : Workload) (calls : List (Pid × Call)) : Type 0 where
   few : length calls ≤ 65536
   few_pages : sum_by (λ c. span c.1) calls ≤ 131072
   each : All (IsCall (length w.procs)) calls
-  built : All (λ c. IsBuiltCall w c.1) calls
+  built : All (λ c. IsBuiltCall c.1) calls
 
 -- what is asked of a call, whose name is one
 asked : (c : Call) → IsTrue (is_name (name_of c)) → IsCallInRange c → IsAsked c
@@ -208,7 +203,7 @@ one_call w calls c formed right so = record {
         by_most = right.refers.most;
         asked = asked c.1 formed right.in_range;
       });
-  built = All-push (λ c. IsBuiltCall w c.1) calls c so.built (without_calls w calls c.1 right.built);
+  built = All-push (λ c. IsBuiltCall c.1) calls c so.built right.built;
 }
 
 one_fail : (w : Workload) (fails : List ℕ) (s : ℕ) → IsFormed (kind.Fail s) → IsRight (put_fails w fails) (kind.Fail s)
@@ -236,10 +231,12 @@ one_go w go g formed right so = record {
 }
 
 -- the disk is larger than what stands before the data
-first : (w : Workload) → w.version ≡ 1 → least_device w ≤ w.device → first_block w + 0 ≤ w.device
-first w one least = rw one (omega (arith, at_one w.version w.device one least)) where
-  at_one : (version device : ℕ) → version ≡ 1 → (if nat_lt version 2 then 1024 else 2048) ≤ device → 1024 ≤ device
-  at_one version device one least = rw one at least
+first : (w : Workload) → least_device w ≤ w.device → first_block w + 0 ≤ w.device
+first w least = by_layout (nat_lt w.version 2) w.device least where
+  by_layout : (early : Bool) (device : ℕ) → (if early then 1024 else 2048) ≤ device
+      → (if early then 526 else 1318) + 0 ≤ device
+  by_layout true device least = omega (arith, least)
+  by_layout false device least = omega (arith, least)
 
 -- the workload whose lines are right is accepted
 pub accepted : (w : Workload) → AreRight (kind.End ∷ body w) → IsAccepted w
@@ -271,13 +268,13 @@ accepted w right =
       few = omega arith;
       each = All-nil IsPreset;
       apart = λ i j d lt within. absurd (omega (arith, within));
-      fit = first w version.3.built device.3.in_range.0;
+      fit = first w device.3.in_range.0;
     }) in
     let cs : CallsSoFar w w.calls = calls.1 (record {
       few = omega arith;
       few_pages = omega arith;
       each = All-nil (IsCall (length w.procs));
-      built = All-nil (λ c. IsBuiltCall w c.1);
+      built = All-nil (λ c. IsBuiltCall c.1);
     }) in
     let none : w.fails ≡ [] = fails.1 refl in
     let gs : GoSoFar w w.go = go.1 (record { few = omega arith; each = All-nil (IsGo (length w.procs)) }) in

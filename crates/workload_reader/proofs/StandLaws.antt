@@ -1,20 +1,17 @@
 -- What is kept beside a workload while its lines are read.
 use Rattle.std.proofs.Common.{◌≡◌, ◌≢◌, ℕ, zero, suc, ◌+◌, ◌<◌, ◌≤◌, ◌∙◌, Bool, true, false, List, [], ◌∷◌, ◌++◌}
 use Rattle.std.proofs.Common.{length, get_or, set, replicate, slice_get, slice_index_or, Option, Some, None, All}
-use Rattle.std.proofs.Common.{IsFalse, option_map, unwrap_or, ap, refl, sym, arith, ◌⊎◌, inl, inr}
+use Rattle.std.proofs.Common.{IsFalse, ap, refl, sym, arith, ◌⊎◌, inl, inr}
 use Rattle.std.proofs.lemmas.Bool.{false≢true, cases_lt}
 use Rattle.std.proofs.lemmas.List.{get_or-set_same, get_or-set_other, length-set, length_push, length-replicate}
 use Rattle.std.proofs.lemmas.Option.{slice_get_within, get_or_from_slice_get}
-use Rattle.std.proofs.lemmas.List.Sums.{position_or_len_is, sum_by_push}
-use Rattle.std.proofs.lemmas.Bool.Decides.{nat_tests}
-use Rattle.std.specs.List.{position_or_len}
+use Rattle.std.proofs.lemmas.List.Sums.{sum_by_push}
 use Rattle.std.specs.Str.{bytes_eq}
 use Rattle.std.proofs.lemmas.Slice.Eq.{bytes_eq-Decides}
-use Rattle.fixed_places.specs.Keys.{IsAbsent, IsPlaceOf}
+use Rattle.fixed_places.specs.Keys.{IsAbsent}
 use Rattle.split_types.specs.declared.workload.Preset.{Preset}
 use Rattle.split_types.specs.declared.workload.Workload.{Workload}
 use Rattle.split_types.proofs.Shared.{slice_get-push, some_at, all_at}
-use Rattle.split_types.specs.Workloads.{file_named, pages_in}
 use Rattle.workload_reader.specs.declared.file_name.FileName.{FileName}
 use Rattle.workload_reader.specs.declared.line.Line.TheVariants as kind
 use Rattle.workload_reader.specs.FileNames.{AreNames}
@@ -120,21 +117,6 @@ pub new_name : (keys : List (Option FileName)) (files : List Preset) (name : Lis
 new_name keys files name names none k d within =
     only_false (bytes_eq (get_or files k d).name name) (λ same. none k (held_at keys files name k d names within same))
 
--- the place that holds the name is that of the first file of that name
-pub place_named : (keys : List (Option FileName)) (files : List Preset) (name : List ℕ) (at : ℕ) → AreNames keys files
-    → IsPlaceOf keys (record { 0 = name }) at → file_named files name ≡ Some at
-place_named keys files name at names place =
-    let there = named_at keys files name at names place.here in
-    let f = there.0 in
-    let within = slice_get_within files at f there.1 in
-    let first : position_or_len (λ g. bytes_eq g.name name) files ≡ at = position_or_len_is
-    (λ g. bytes_eq g.name name) files at f (omega arith)
-    (λ k below. only_false (bytes_eq (get_or files k f).name name)
-    (λ same. let one = place.only k (held_at keys files name k f names (omega arith) same) in absurd (omega arith)))
-    (λ _. ap (λ g. bytes_eq g.name name) (get_or_from_slice_get files at f f there.1)
-    ∙ (bytes_eq-Decides f.name name).1 there.2) in
-    rw first (grind (arith, nat_tests))
-
 -- one file more, that is right
 pub one_file : (w : Workload) (f : Preset) (pages spanned turns least : ℕ) (names : List (Option FileName))
     → StandsFor w pages spanned turns least names → IsRight w (kind.File f)
@@ -157,26 +139,3 @@ one_file w f pages spanned turns least names s right =
       few_spanned = s.few_spanned;
       few_turns = s.few_turns;
     }
-
--- the place of the file of a name, and its pages
-pub file_at : (w : Workload) (keys : List (Option FileName)) (name : List ℕ) (at : ℕ) (f : Preset)
-    → AreNames keys w.files → IsPlaceOf keys (record { 0 = name }) at → slice_get w.files at ≡ Some f
-    → (place : ℕ) × (file_named w.files name ≡ Some place) × (pages_in w place ≡ f.pages)
-file_at w keys name at f names place is =
-    (at, place_named keys w.files name at names place, ap (λ o. unwrap_or (option_map (λ g. g.pages) o) 0) is)
-
--- it is one of the files
-pub place_within : (keys : List (Option FileName)) (files : List Preset) (name : List ℕ) (at : ℕ) → AreNames keys files
-    → IsPlaceOf keys (record { 0 = name }) at → at < length files
-place_within keys files name at names place =
-    let there = named_at keys files name at names place.here in slice_get_within files at there.0 there.1
-
--- no file has the name
-pub none_named : (files : List Preset) (name : List ℕ) → All (λ g. IsFalse (bytes_eq g.name name)) files
-    → file_named files name ≡ None
-none_named [] name none = refl
-none_named (f ∷ files) name none =
-    let past : position_or_len (λ g. bytes_eq g.name name) (f ∷ files) ≡ length (f ∷ files) = position_or_len_is
-    (λ g. bytes_eq g.name name) (f ∷ files) (length (f ∷ files)) f (omega arith)
-    (λ k below. none k f below) (λ within. absurd (omega arith)) in
-    rw past (grind (arith, nat_tests))

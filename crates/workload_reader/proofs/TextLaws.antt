@@ -1,12 +1,11 @@
 -- What a text spells, and why one is refused.
 use Rattle.std.proofs.Common.{◌≡◌, ℕ, ◌+◌, ◌<◌, ◌≤◌, ◌∙◌, ◌⊎◌, inl, inr, List, [], length, Result, Ok, Err, ap, refl}
-use Rattle.std.proofs.Common.{sym, subst, arith}
+use Rattle.std.proofs.Common.{sym, arith}
 use Rattle.split_types.specs.declared.workload.Workload.{Workload}
-use Rattle.split_types.specs.WorkloadText.{Spells}
 use Rattle.workload_reader.specs.declared.cause.Cause.{Cause}
 use Rattle.workload_reader.specs.declared.cause.Cause.TheVariants as cause
 use Rattle.workload_reader.specs.declared.fault.LineFault.{LineFault}
-use Rattle.workload_reader.specs.Refusal.{ReadsFront, RefusesFront, GoesOn, Refuses}
+use Rattle.workload_reader.specs.Refusal.{RefusesFront, GoesOn, Refuses}
 use Rattle.workload_reader.specs.declared.fault.ReadWorkload.{ReadWorkload}
 use Rattle.workload_reader.specs.declared.fault.ReadWorkload.TheVariants as fault
 use Rattle.workload_reader.specs.Reading.{Reading}

@@ -99,12 +99,12 @@ Fits w (kind.File f) = first_block w + preset_pages w + f.pages ≤ w.device
 Fits w _ = Unit {0}
 
 -- what it asks for is built
-abbrev pub IsBuiltLine : Workload → Line → Type 0
-IsBuiltLine w (kind.Version n) = n ≡ 1
-IsBuiltLine w (kind.Sched s) = s ≡ Fifo
-IsBuiltLine w (kind.Call p c) = IsBuiltCall w c
-IsBuiltLine w (kind.Fail s) = ⊥
-IsBuiltLine w _ = Unit {0}
+abbrev pub IsBuiltLine : Line → Type 0
+IsBuiltLine (kind.Version n) = n ≤ 2
+IsBuiltLine (kind.Sched s) = s ≡ Fifo
+IsBuiltLine (kind.Call p c) = IsBuiltCall c
+IsBuiltLine (kind.Fail s) = ⊥
+IsBuiltLine _ = Unit {0}
 
 -- nothing is wrong with it
 pub record IsRight (w : Workload) (l : Line) : Type 0 where
@@ -113,7 +113,7 @@ pub record IsRight (w : Workload) (l : Line) : Type 0 where
   pub new : IsNew w l
   pub few : IsFew w l
   pub fits : Fits w l
-  pub built : IsBuiltLine w l
+  pub built : IsBuiltLine l
 
 -- the first thing that is wrong with it
 abbrev pub Fails : Workload → Line → Cause → Type 0
@@ -122,5 +122,5 @@ Fails w l cause.Ref = InRange w l × (Refers w l → ⊥)
 Fails w l cause.Name = InRange w l × Refers w l × (IsNew w l → ⊥)
 Fails w l cause.Limit = InRange w l × Refers w l × IsNew w l × (IsFew w l → ⊥)
 Fails w l cause.Space = InRange w l × Refers w l × IsNew w l × IsFew w l × (Fits w l → ⊥)
-Fails w l cause.NotBuilt = InRange w l × Refers w l × IsNew w l × IsFew w l × Fits w l × (IsBuiltLine w l → ⊥)
+Fails w l cause.NotBuilt = InRange w l × Refers w l × IsNew w l × IsFew w l × Fits w l × (IsBuiltLine l → ⊥)
 Fails w l _ = ⊥

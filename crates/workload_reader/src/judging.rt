@@ -1,9 +1,9 @@
 //! Whether a line is right, given what the lines before it say.
 ghost use Rattle.std.specs.Prelude.{◌≡◌, ◌↔◌, ◌+◌, ◌<◌, ◌≤◌, ℕ, length, IsTrue, IsFalse, All, Some, None, MatchOption};
-ghost use Rattle.split_types.specs.Workloads.{first_block, file_named, pages_in, preset_pages, span, spans};
+ghost use Rattle.split_types.specs.Workloads.{first_block, preset_pages, span, spans};
 ghost use Rattle.std.specs.Str.{bytes_eq};
 ghost use Rattle.split_types.specs.IsWorkload.{most_processes};
-ghost use Rattle.split_types.specs.Accepted.{IsWithinPreset, IsBuiltCall};
+ghost use Rattle.split_types.specs.Accepted.{IsBuiltCall};
 ghost use Rattle.workload_reader.specs.Table.{InRange, Refers, IsNew, IsFew, Fits, IsBuiltLine, IsRight, Fails};
 
 use crate::adding::span;
@@ -13,6 +13,32 @@ use crate::line::Line;
 use crate::seen::Seen;
 use split_types::{Call, Name, Sched};
 
+/// Whether the call is built: any but an fsync.
+fn is_built_call(call: &Call) -> bool
+    ensures { IsTrue result ↔ IsBuiltCall call.now }
+{
+    match call {
+        Call::Creat { .. } => true,
+        Call::Write { .. } => true,
+        Call::Read { .. } => true,
+        Call::Fsync { .. } => false,
+        Call::Unlink { .. } => true,
+    }
+}
+
+/// Whether what the line asks for is built.
+fn is_built(line: &Line) -> bool
+    ensures { IsTrue result ↔ IsBuiltLine line.now }
+{
+    match line {
+        Line::Version(n) => *n <= 2,
+        Line::Sched(sched) => matches!(sched, Sched::Fifo),
+        Line::Call(_, call) => is_built_call(call),
+        Line::Fail(_) => false,
+        _ => true,
+    }
+}
+
 impl Seen {
     /// Whether no file has this name.
     fn is_free(&self, name: &Name) -> bool
@@ -21,18 +47,6 @@ impl Seen {
         match self.names.find(&FileName(*name)) {
             Some(_) => false,
             None => true,
-        }
-    }
-
-    /// The number of pages of the file of this name, where there is one.
-    fn pages_of(&self, name: &Name) -> Option<u32>
-        ensures { MatchOption result (file_named self.now.workload.files name.now ≡ None)
-            (λ pages. (at : ℕ) × (file_named self.now.workload.files name.now ≡ Some at)
-            × (pages_in self.now.workload at ≡ pages)) }
-    {
-        match self.names.find(&FileName(*name)) {
-            Some(at) => Some(self.workload.files.at(at).pages),
-            None => None,
         }
     }
 
@@ -104,40 +118,6 @@ impl Seen {
         }
     }
 
-    /// Whether the range of bytes lies in the pages of the file of that name, where there is one.
-    fn is_within_preset(&self, name: &Name, off: u32, len: u32) -> bool
-        ensures { IsTrue result ↔ IsWithinPreset self.now.workload name.now off len }
-    {
-        match self.pages_of(name) {
-            Some(pages) => u64::from(off) + u64::from(len) <= 4096 * u64::from(pages),
-            None => true,
-        }
-    }
-
-    /// Whether the call is a read, or a write that makes no file grow.
-    fn is_built_call(&self, call: &Call) -> bool
-        ensures { IsTrue result ↔ IsBuiltCall self.now.workload call.now }
-    {
-        match call {
-            Call::Write { name, off, len, .. } => self.is_within_preset(name, *off, *len),
-            Call::Read { .. } => true,
-            Call::Creat { .. } | Call::Fsync { .. } | Call::Unlink { .. } => false,
-        }
-    }
-
-    /// Whether what the line asks for is built.
-    fn is_built(&self, line: &Line) -> bool
-        ensures { IsTrue result ↔ IsBuiltLine self.now.workload line.now }
-    {
-        match line {
-            Line::Version(n) => *n == 1,
-            Line::Sched(sched) => matches!(sched, Sched::Fifo),
-            Line::Call(_, call) => self.is_built_call(call),
-            Line::Fail(_) => false,
-            _ => true,
-        }
-    }
-
     /// The first thing that is wrong with a line whose numbers are in their ranges and which names what exists.
     pub(crate) fn fault(&self, line: &Line) -> Option<Cause>
         requires in_range { InRange self.now.workload line.now }
@@ -150,7 +130,7 @@ impl Seen {
             Some(Cause::Limit)
         } else if !self.fits(line) {
             Some(Cause::Space)
-        } else if !self.is_built(line) {
+        } else if !is_built(line) {
             Some(Cause::NotBuilt)
         } else {
             None
