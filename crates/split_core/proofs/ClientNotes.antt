@@ -16,7 +16,7 @@ use Rattle.split_types.specs.History.{◌▹◌}
 use Rattle.split_types.specs.Hooks.{maker}
 use Rattle.split_types.specs.Calls.{returned}
 use Rattle.split_types.specs.Files.{bound_file}
-use Rattle.split_types.specs.FileSizes.{working_file, size_at_admit}
+use Rattle.split_types.specs.FileSizes.{size_at_admit}
 use Rattle.split_types.specs.Reads.{is_process}
 use Rattle.split_types.specs.Workloads.{calls_of}
 use Rattle.split_types.specs.Legal.{is_finished}
@@ -36,14 +36,12 @@ pub others_stay : (w : Workload) (h : List Event) (e : Event) (q : ℕ) → Fits
     → ((by : Pid) → maker e ≡ Client by → q ≡ by.0 → ⊥) → is_process q (done_for h e) ≡ false
     → client_of w (h ▹ e) q ≡ client_of w h q
 others_stay w h (Enter b k) q fits other unread = rw (other_number b q (other b refl)) refl
-others_stay w h (Admit b) q fits other unread =
-    rw (other_number b q (other b refl), size_at_admit, working_file, bound_file) refl
+others_stay w h (Admit b) q fits other unread = rw (other_number b q (other b refl), size_at_admit, bound_file) refl
 others_stay w h (Put b s g from to fill) q fits other unread = rw (other_number b q (other b refl)) refl
 others_stay w h (Get b s g from to sum) q fits other unread = rw (other_number b q (other b refl)) refl
-others_stay w h (Ret b r) q fits other unread =
-    rw (other_number b q (other b refl), working_file, bound_file) refl
-others_stay w h (Make b slot serial) q fits other unread = absurd fits
-others_stay w h (Drop b slot serial) q fits other unread = absurd fits
+others_stay w h (Ret b r) q fits other unread = rw (other_number b q (other b refl), bound_file) refl
+others_stay w h (Make b slot serial) q fits other unread = rw (other_number b q (other b refl)) refl
+others_stay w h (Drop b slot serial) q fits other unread = rw (other_number b q (other b refl)) refl
 others_stay w h (Add (Client b) r) q fits other unread = rw (other_number b q (other b refl)) refl
 others_stay w h (Done k id ok) q fits other unread = rw unread refl
 others_stay w h e q fits other unread = refl
@@ -227,6 +225,7 @@ served x = record {
   returned = x.returned;
   entered = x.entered;
   admitted = x.admitted;
+  acted = x.acted;
   file = x.file;
   size = x.size;
   moved = x.moved;

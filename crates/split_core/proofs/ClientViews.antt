@@ -1,8 +1,7 @@
 -- What a process sees of the stack is what decides its next event.
-use Rattle.std.proofs.Common.{◌≡◌, ℕ, ◌-◌, ◌<◌, ◌≤◌, List, [], length, sum, slice_range, Bool, true, false, ◌&&◌, ◌||◌}
-use Rattle.std.proofs.Common.{Option, Some, None, is_some, refl, ap, sym, ◌∙◌, subst, arith, nat_le, option_map}
-use Rattle.std.specs.Prelude.{IsSomeAnd, IfSome, if◌then◌else◌, nat_lt}
-use Rattle.std.proofs.lemmas.Bool.Decides.{nat_tests}
+use Rattle.std.proofs.Common.{◌≡◌, ℕ, ◌-◌, ◌≤◌, List, length, sum, slice_range, true, false, ◌&&◌, ◌||◌}
+use Rattle.std.proofs.Common.{Option, Some, None, is_some, refl, ap, sym, ◌∙◌, subst, nat_le, option_map}
+use Rattle.std.specs.Prelude.{IsSomeAnd, IfSome}
 use Rattle.std.proofs.lemmas.Bool.{cond-true, le-leb, and_from}
 use Rattle.split_types.specs.declared.ids.Pid.{Pid}
 use Rattle.split_types.specs.declared.ids.Serial.{Serial}
@@ -10,100 +9,124 @@ use Rattle.split_types.specs.declared.ids.ReqId.{ReqId}
 use Rattle.split_types.specs.declared.actor.Actor.TheVariants.{Client}
 use Rattle.split_types.specs.declared.buf.Buf.TheVariants.{Page}
 use Rattle.split_types.specs.declared.call.Call.{Call}
+use Rattle.split_types.specs.declared.request.Run.{Run}
 use Rattle.split_types.specs.declared.workload.Workload.{Workload}
 use Rattle.split_types.specs.declared.event.Event.{Event}
 use Rattle.split_types.specs.History.{adds}
 use Rattle.split_types.specs.Calls.{call_of}
 use Rattle.split_types.specs.Files.{is_live, bound_file}
-use Rattle.split_types.specs.FileSizes.{if_live, working_file, size_at_admit}
-use Rattle.split_types.specs.FileMaps.{mapped_block}
+use Rattle.split_types.specs.FileSizes.{working_file, size_at_admit}
+use Rattle.split_types.specs.FileSlots.{slot_of_some}
+use Rattle.split_types.specs.LiveFiles.{free_slot}
 use Rattle.split_types.specs.Schedulers.{admits}
 use Rattle.split_types.specs.Pages.{is_busy}
 use Rattle.split_types.specs.Pieces as pieces
 use Rattle.split_types.specs.HeldPages.{unsettled_pages}
 use Rattle.split_types.specs.PagesInCache.{IsThere}
 use Rattle.split_types.specs.Clients.{piece_state, state_left, client_state, next_of_client}
+use Rattle.split_types.specs.Writeback.{service}
 use Rattle.split_types.specs.Next.{next}
+use Rattle.split_types.specs.FilesInOrder.{AreFiles}
 use Rattle.split_types.specs.Accepted.{IsAccepted}
 use Rattle.split_types.specs.Legal.{IsLegal}
-use Rattle.split_types.proofs.Shared.{known}
+use Rattle.split_types.proofs.Shared.{files_are_in_order, maps_known, live_of}
 use Rattle.cause_set.specs.Tags.{Tags}
 use Rattle.page_cache.specs.Held.{Held}
 use Rattle.page_cache.specs.Cached as cached
 use Rattle.client_calls.specs.declared.progress.Progress.{Progress}
 use Rattle.client_calls.specs.declared.next.ClientNext.TheVariants.{Nothing, Wait, Act}
 use Rattle.client_calls.specs.View.{View, piece_left}
+use Rattle.client_calls.specs.CallFile as called
+use Rattle.client_calls.specs.Space as space
 use Rattle.client_calls.specs.Shows.{ShowsPiece, ShowsLeft, Shows, answer_of}
 use Rattle.split_core.specs.declared.note.pages.Pages.{Pages}
+use Rattle.split_core.specs.declared.note.filing.Filing.{Filing}
 use Rattle.split_core.specs.Pages.{PagesStand}
+use Rattle.split_core.specs.Filing.{FilingStands}
 use Rattle.split_core.specs.StandsFor.{Simulation}
-use Rattle.split_core.specs.Clients.{IsProgress, block_on}
+use Rattle.split_core.specs.Clients.{IsProgress, mapped_run}
 use Rattle.split_core.proofs.ClientViewsPages.{none_badly, unsettled_in, evicted}
+use Rattle.split_core.proofs.ClientViewsFiles.{file_is, slot_is, name_taken_is, block_is, space_is, run_is}
 
 -- ---- what decides
 -- what a process sees
-abbrev pub sees : Workload → Pages → ℕ → Option ℕ → Progress → ReqId → View
-sees w p n block x id = record {
+abbrev pub sees : Workload → Pages → Filing → ℕ → Option Run → Progress → ReqId → View
+sees w p f n run x id = record {
   cache = p.cache;
   places = w.cache;
   n = n;
-  block = block;
+  files = f.fs;
+  blocks = f.alloc;
+  mapped = run;
   progress = x;
   may_admit = true;
   next_id = id;
 }
 
 -- all that the view of a process stands for
-pub record Seen (w : Workload) (p : Pages) (tags : Tags) (h : List Event) (q : Pid) (n : ℕ) (block : Option ℕ)
-    (x : Progress) (id : ReqId) : Type 0 where
+pub record Seen (w : Workload) (p : Pages) (f : Filing) (tags : Tags) (h : List Event) (q : Pid) (n : ℕ)
+    (run : Option Run) (x : Progress) (id : ReqId) : Type 0 where
   pub accepted : IsAccepted w
   pub legal : IsLegal w h
   pub stands : PagesStand w p tags h
+  pub filing : FilingStands w f h
   pub progress : IsProgress w h q.0 x
   pub procs : n ≡ length w.procs
-  pub block_is : block ≡ block_on w x.bound (piece_left x)
+  pub run_is : run ≡ mapped_run (service h)
   pub number : id.0 ≡ adds h
 
 -- so is what is read of a core that is seen as v
-pub seen_from : (w : Workload) (p : Pages) (tags : Tags) (h : List Event) (q : Pid) (n : ℕ) (block : Option ℕ)
-    (x : Progress) (id : ReqId) (v : Simulation)
+pub seen_from : (w : Workload) (p : Pages) (f : Filing) (tags : Tags) (h : List Event) (q : Pid) (n : ℕ)
+    (run : Option Run) (x : Progress) (id : ReqId) (v : Simulation)
     → (let s : Simulation = record { workload = w; history = h } in s) ≡ v → IsAccepted w → IsLegal w h
-    → PagesStand w p tags h → IsProgress v.workload v.history q.0 x → n ≡ length w.procs
-    → block ≡ block_on v.workload x.bound (piece_left x) → id.0 ≡ adds h → Seen w p tags h q n block x id
-seen_from w p tags h q n block x id v view accepted legal stands progress procs block_is number = record {
+    → PagesStand w p tags h → FilingStands w f h → IsProgress v.workload v.history q.0 x → n ≡ length w.procs
+    → run ≡ mapped_run (service v.history) → id.0 ≡ adds h → Seen w p f tags h q n run x id
+seen_from w p f tags h q n run x id v view accepted legal stands filing progress procs serves number = record {
   accepted = accepted;
   legal = legal;
   stands = stands;
+  filing = filing;
   progress = subst (λ (s : Simulation). IsProgress s.workload s.history q.0 x) (sym view) progress;
   procs = procs;
-  block_is = subst (λ (s : Simulation). block ≡ block_on s.workload x.bound (piece_left x)) (sym view) block_is;
+  run_is = subst (λ (s : Simulation). run ≡ mapped_run (service s.history)) (sym view) serves;
   number = number;
 }
+
+in_order : (w : Workload) (h : List Event) → IsAccepted w → IsLegal w h → AreFiles w h
+in_order w h accepted legal = files_are_in_order w h accepted legal
 
 loaded_there : (x : Option Held) → IsSomeAnd x (λ p. p.state.loading ≡ false)
     → (is_some x ≡ true) × (cached.is_loading x ≡ false)
 loaded_there None loaded = absurd loaded
 loaded_there (Some p) loaded = (refl, loaded)
 
-shows_piece : (w : Workload) (p : Pages) (tags : Tags) (h : List Event) (q : Pid) (n : ℕ) (block : Option ℕ)
-    (x : Progress) (id : ReqId) (s : Serial) (left : pieces.Piece) → Seen w p tags h q n block x id
-    → block ≡ mapped_block w [] s.0 left.page
-    → ShowsPiece q s left (sees w p n block x id) (piece_state w h q s left)
-shows_piece w p tags h q n block x id s left seen block_is =
+shows_piece : (w : Workload) (p : Pages) (f : Filing) (tags : Tags) (h : List Event) (q : Pid) (n : ℕ)
+    (run : Option Run) (x : Progress) (id : ReqId) (s : Serial) (left : pieces.Piece)
+    → Seen w p f tags h q n run x id → is_live w h s.0 ≡ true
+    → ShowsPiece q s left (sees w p f n run x id) (piece_state w h q s left)
+shows_piece w p f tags h q n run x id s left seen live =
     let stands = seen.stands in
     let b = Page s left.page in
     let y = cached.page_of p.cache b in
+    let place = block_is w h s left.page (in_order w h seen.accepted seen.legal)
+    (maps_known.maps w h seen.accepted seen.legal) live
+    ∙ ap (λ slots. space.block_of slots s left.page) (sym seen.filing.files.slots) in
     record {
       by = refl;
       serial = refl;
       piece = refl;
       read_badly = none_badly w h q.0 b seen.legal ∙ sym seen.progress.well;
+      moved = sym seen.progress.moved;
       loading = sym (stands.loading_are s left.page);
+      in_mapped_run = run_is h b ∙ ap (λ r. space.is_in_run r b) (sym seen.run_is);
       unsettled =
           ap (λ t. t || is_busy w h b) (sym (stands.dirty_are s left.page))
           ∙ ap (λ t. is_some (cached.tag_in y) || t) (sym (stands.busy_are s left.page)) ∙ sym (unsettled_in y);
       held = sym (stands.held_are s left.page);
-      block = (known w h seen.accepted seen.legal).maps s.0 left.page ∙ sym block_is;
+      block = place;
+      without_space =
+          space_is w h s left.page f.alloc (space.block_of f.fs.slots s left.page) (space.is_dirty y)
+          seen.filing.blocks place (sym (stands.dirty_are s left.page));
       crowded =
           ap (λ m. nat_le (w.cache - m) (length (unsettled_pages w h))) (sym seen.procs)
           ∙ ap (nat_le (w.cache - n)) (sym stands.unsettled_counted);
@@ -119,21 +142,22 @@ shows_piece w p tags h q n block x id s left seen block_is =
           ap (λ bytes. sum (slice_range bytes left.from left.to)) (sym (stands.bytes_are s left.page here));
     }
 
-shows_some : (w : Workload) (p : Pages) (tags : Tags) (h : List Event) (q : Pid) (n : ℕ) (block : Option ℕ)
-    (x : Progress) (id : ReqId) (s : Serial) (left : Option pieces.Piece) → Seen w p tags h q n block x id
-    → block ≡ block_on w (Some s) left
-    → ShowsLeft q (sees w p n block x id) (Some s) left (option_map (piece_state w h q s) left)
-shows_some w p tags h q n block x id s None seen block_is = refl
-shows_some w p tags h q n block x id s (Some left) seen block_is =
-    shows_piece w p tags h q n block x id s left seen block_is
+shows_some : (w : Workload) (p : Pages) (f : Filing) (tags : Tags) (h : List Event) (q : Pid) (n : ℕ)
+    (run : Option Run) (x : Progress) (id : ReqId) (s : Serial) (left : Option pieces.Piece)
+    → Seen w p f tags h q n run x id → is_live w h s.0 ≡ true
+    → ShowsLeft q (sees w p f n run x id) (Some s) left (option_map (piece_state w h q s) left)
+shows_some w p f tags h q n run x id s None seen live = refl
+shows_some w p f tags h q n run x id s (Some left) seen live =
+    shows_piece w p f tags h q n run x id s left seen live
 
-shows_left : (w : Workload) (p : Pages) (tags : Tags) (h : List Event) (q : Pid) (n : ℕ) (block : Option ℕ)
-    (x : Progress) (id : ReqId) (file : Option Serial) → Seen w p tags h q n block x id
-    → block ≡ block_on w file (pieces.piece_left w h q.0)
-    → ShowsLeft q (sees w p n block x id) file (pieces.piece_left w h q.0) (state_left w h q file)
-shows_left w p tags h q n block x id None seen block_is = refl
-shows_left w p tags h q n block x id (Some s) seen block_is =
-    shows_some w p tags h q n block x id s (pieces.piece_left w h q.0) seen block_is
+shows_left : (w : Workload) (p : Pages) (f : Filing) (tags : Tags) (h : List Event) (q : Pid) (n : ℕ)
+    (run : Option Run) (x : Progress) (id : ReqId) (file : Option Serial) → Seen w p f tags h q n run x id
+    → working_file w h q.0 ≡ file
+    → ShowsLeft q (sees w p f n run x id) file (pieces.piece_left w h q.0) (state_left w h q file)
+shows_left w p f tags h q n run x id None seen is = refl
+shows_left w p f tags h q n run x id (Some s) seen is =
+    shows_some w p f tags h q n run x id s (pieces.piece_left w h q.0) seen
+    (live_of w h (bound_file w h q.0) s is)
 
 -- the first piece that is left
 left_is : (w : Workload) (h : List Event) (p : ℕ) (x : Progress) → IsProgress w h p x
@@ -146,13 +170,34 @@ left_is w h p x is =
 admits_all : (w : Workload) (h : List Event) (p : ℕ) → IsAccepted w → admits w h p ≡ true
 admits_all w h p accepted = rw accepted.built.sched refl
 
-pub shows : (w : Workload) (p : Pages) (tags : Tags) (h : List Event) (q : Pid) (n : ℕ) (block : Option ℕ)
-    (x : Progress) (id : ReqId) → Seen w p tags h q n block x id
-    → Shows q (sees w p n block x id) (client_state w h q)
-shows w p tags h q n block x id seen =
+-- the file that a call is bound to, as it is seen
+seen_file : (w : Workload) (p : Pages) (f : Filing) (tags : Tags) (h : List Event) (q : Pid) (n : ℕ)
+    (run : Option Run) (x : Progress) (id : ReqId) → Seen w p f tags h q n run x id
+    → working_file w h q.0 ≡ called.file_in f.fs.slots x.bound
+seen_file w p f tags h q n run x id seen =
+    file_is w h (bound_file w h q.0) (in_order w h seen.accepted seen.legal)
+    ∙ ap (λ slots. called.file_in slots (bound_file w h q.0)) (sym seen.filing.files.slots)
+    ∙ ap (called.file_in f.fs.slots) (sym seen.progress.bound)
+
+-- its slot is this one, if there is one
+abbrev IsSlotOf : Workload → List Event → ℕ → Option ℕ → Type 0
+IsSlotOf w h p o = IfSome o (λ slot. slot_of_some w h (working_file w h p) ≡ record { 0 = slot })
+
+seen_slot : (w : Workload) (p : Pages) (f : Filing) (tags : Tags) (h : List Event) (q : Pid) (n : ℕ)
+    (run : Option Run) (x : Progress) (id : ReqId) → Seen w p f tags h q n run x id
+    → IsSlotOf w h q.0 (called.slot_in f.fs.slots x.bound)
+seen_slot w p f tags h q n run x id seen =
+    subst (λ o. IsSlotOf w h q.0 (called.slot_in f.fs.slots o)) (sym seen.progress.bound)
+    (subst (λ slots. IsSlotOf w h q.0 (called.slot_in slots (bound_file w h q.0))) (sym seen.filing.files.slots)
+    (slot_is w h (bound_file w h q.0) (in_order w h seen.accepted seen.legal)))
+
+pub shows : (w : Workload) (p : Pages) (f : Filing) (tags : Tags) (h : List Event) (q : Pid) (n : ℕ)
+    (run : Option Run) (x : Progress) (id : ReqId) → Seen w p f tags h q n run x id
+    → Shows q (sees w p f n run x id) (client_state w h q)
+shows w p f tags h q n run x id seen =
     let is = seen.progress in
     let file = working_file w h q.0 in
-    let left = left_is w h q.0 x is in
+    let serial : ℕ → Serial = λ m. record { 0 = m } in
     record {
       by = refl;
       number = sym is.number;
@@ -160,32 +205,23 @@ shows w p tags h q n block x id seen =
       entered = sym is.entered;
       may_admit = admits_all w h q.0 seen.accepted;
       admitted = sym is.admitted;
-      file = sym is.bound;
+      acted = sym is.acted;
+      name_taken =
+          name_taken_is w h (call_of w h q.0) (in_order w h seen.accepted seen.legal)
+          ∙ ap (λ slots. called.is_name_taken slots (call_of w h q.0)) (sym seen.filing.files.slots)
+          ∙ ap (called.is_name_taken f.fs.slots) (sym is.call);
+      free_slot = ap free_slot (sym seen.filing.files.slots);
+      new_serial = ap serial (sym seen.filing.files.next);
+      file = seen_file w p f tags h q n run x id seen;
+      slot = seen_slot w p f tags h q n run x id seen;
       moved = sym is.moved;
       got = sym is.sum;
       piece =
-          subst (λ o. ShowsLeft q (sees w p n block x id) o (piece_left x) (state_left w h q file)) (sym is.bound)
-          (subst (λ l. ShowsLeft q (sees w p n block x id) file l (state_left w h q file)) (sym left)
-          (shows_left w p tags h q n block x id file seen
-          (seen.block_is ∙ ap (λ o. block_on w o (piece_left x)) is.bound ∙ ap (block_on w file) left)));
+          subst (λ o. ShowsLeft q (sees w p f n run x id) o (piece_left x) (state_left w h q file))
+          (seen_file w p f tags h q n run x id seen)
+          (subst (λ l. ShowsLeft q (sees w p f n run x id) file l (state_left w h q file))
+          (sym (left_is w h q.0 x is)) (shows_left w p f tags h q n run x id file seen refl));
     }
-
--- the file that a call works on is a preset one
-pub bound_within : (w : Workload) (h : List Event) (p : ℕ) (x : Progress) → IsAccepted w → IsLegal w h
-    → IsProgress w h p x → IfSome x.bound (λ s. s.0 < length w.files)
-bound_within w h p x accepted legal is =
-    subst (λ o. IfSome o (λ s. s.0 < length w.files)) (sym is.bound) (by_file (bound_file w h p))
-  where
-    by_test : (s : Serial) (b : Bool) → is_live w h s.0 ≡ b
-        → IfSome (if b then Some s else None) (λ t. t.0 < length w.files)
-    by_test s true live =
-        let below : nat_lt s.0 (length w.files) ≡ true = sym ((known w h accepted legal).files.live_is s.0) ∙ live in
-        grind (arith, nat_tests)
-    by_test s false live = tt
-
-    by_file : (o : Option Serial) → IfSome (if_live w h o) (λ s. s.0 < length w.files)
-    by_file None = tt
-    by_file (Some s) = by_test s (is_live w h s.0) refl
 
 -- ---- what comes of the answer
 pub acts : (o : Option Event) (call : Option Call) (e : Event) → answer_of o call ≡ Act e → o ≡ Some e

@@ -1,9 +1,8 @@
 -- Whether a history is drained is read from the parts.
 use Rattle.std.proofs.Common.{◌≡◌, ℕ, zero, suc, ◌+◌, ◌<◌, ◌≤◌, ◌==◌, List, [], ◌∷◌, length, map, slice_get, Bool, true}
 use Rattle.std.proofs.Common.{false, not, ◌&&◌, count_by, Option, Some, None, is_some, refl, ap, sym, ◌∙◌, subst, arith}
-use Rattle.std.proofs.Common.{inl, inr}
 use Rattle.std.specs.List.{range_with_len, list_all, list_any}
-use Rattle.std.proofs.lemmas.Bool.{and_from, and_parts, or_cases, eqb-true, false_from_ne_true}
+use Rattle.std.proofs.lemmas.Bool.{and_from, and_parts, or_left, eqb-true, false_from_ne_true}
 use Rattle.std.proofs.Math.Bool.{and-false}
 use Rattle.std.specs.Prelude.{IfNone, IfSome}
 use Rattle.std.proofs.lemmas.List.{nil_from_length, length-map}
@@ -18,18 +17,14 @@ use Rattle.split_types.specs.declared.buf.Buf.TheVariants.{Page, Bitmap, Dir, In
 use Rattle.split_types.specs.declared.request.Request.{Request}
 use Rattle.split_types.specs.declared.workload.Workload.{Workload}
 use Rattle.split_types.specs.declared.event.Event.{Event}
-use Rattle.split_types.specs.declared.event.Event.TheVariants.{Put, Add}
-use Rattle.split_types.specs.History.{◌▹◌}
 use Rattle.split_types.specs.Requests.{is_numbered, requests, queued, in_flight, unfinished}
-use Rattle.split_types.specs.Pages.{is_live_page, is_put_since, is_dirty, is_busy}
+use Rattle.split_types.specs.Pages.{is_live_page, is_dirty, is_busy}
+use Rattle.split_types.specs.HeldPages.{known_pages}
 use Rattle.split_types.specs.Hooks.{same_buf, covers}
-use Rattle.split_types.specs.Workloads.{processes, pages_in, all_pages}
-use Rattle.split_types.specs.Accepted.{IsAccepted}
-use Rattle.split_types.specs.Legal.{IsLegal, is_finished, is_drained}
+use Rattle.split_types.specs.Workloads.{processes}
+use Rattle.split_types.specs.Legal.{is_finished, is_drained}
 use Rattle.split_types.specs.Proving.Known.{Known}
-use Rattle.split_types.specs.Proving.Runs.{IsPageAt}
-use Rattle.split_types.proofs.Shared.{nothing_left, known, page_is, put_in_legal}
-use Rattle.split_types.proofs.Shared.{any_page}
+use Rattle.split_types.proofs.Shared.{nothing_left, known, find_some, list_any_here, same_buf-is, pages_are_known}
 use Rattle.tag_table.specs.Tags.{tags_of}
 use Rattle.cause_set.specs.Tags.{Tags}
 use Rattle.split_core.specs.declared.plan.Plan.{Plan}
@@ -83,27 +78,6 @@ none_passes : {X : Type 0} (p : X → Bool) (xs : List X) → ((k : ℕ) (x : X)
 none_passes p [] none = refl
 none_passes p (x ∷ xs) none = let here = none 0 x refl in rw here (none_passes p xs (λ k y at. none (suc k) y at))
 
--- a page that was put is one of a preset file
-put_within : (w : Workload) (h : List Event) (s : Serial) (g : ℕ) → IsAccepted w → IsLegal w h
-    → is_put_since h (Page s g) ≡ true → (s.0 < length w.files) × (g < pages_in w s.0)
-put_within w [] s g accepted legal put = absurd (cc)
-put_within w (h ▹ Put by t k from to fill) s g accepted legal put =
-    elim (or_cases (same_buf (Page s g) (Page t k)) (is_put_since h (Page s g)) put) [
-      | inl here ↦
-          (let is = put_in_legal w h by t k from to fill accepted legal
-          in let same = and_parts (s.0 == t.0) (g == k) here
-          in let file : s.0 ≡ t.0 = eqb-true s.0 t.0 same.0
-          in let page : g ≡ k = eqb-true g k same.1
-          in (
-            omega (arith, is.file, file),
-            subst (λ n. n < pages_in w s.0) (sym page) (subst (λ n. k < pages_in w n) (sym file) is.page),
-          ))
-      | inr old ↦ put_within w h s g accepted legal.1 old
-    ]
-put_within w (h ▹ Add by r) s g accepted legal put =
-    put_within w h s g accepted legal.1 (and_parts (not (covers r (Page s g))) (is_put_since h (Page s g)) put).1
-put_within w (h ▹ e) s g accepted legal put = put_within w h s g accepted legal.1 put
-
 -- in the cache a page is ready where it is dirty and not busy
 ready_is : (x : Option Held) → cached.is_ready x ≡ (is_some (cached.tag_in x) && not (cached.is_busy x))
 ready_is None = refl
@@ -114,8 +88,8 @@ ready_held None is = absurd (cc)
 ready_held (Some p) is = refl
 
 none_dirty : (w : Workload) (p : Pages) (tags : Tags) (h : List Event) → PagesStand w p tags h → unfinished h ≡ []
-    → ((b : Buf) → IsReady p.cache b → ⊥) → list_any (is_dirty w h) (all_pages w) ≡ false
-none_dirty w p tags h stands done none = none_passes (is_dirty w h) (all_pages w) (λ k b at. clean b (page_is w k b at))
+    → ((b : Buf) → IsReady p.cache b → ⊥) → list_any (is_dirty w h) (known_pages h) ≡ false
+none_dirty w p tags h stands done none = none_passes (is_dirty w h) (known_pages h) (λ k b at. clean b)
   where
     at_page : (s : Serial) (g : ℕ) → is_dirty w h (Page s g) ≡ true → ⊥
     at_page s g dirty =
@@ -125,25 +99,32 @@ none_dirty w p tags h stands done none = none_passes (is_dirty w h) (all_pages w
         ∙ and_from (is_some (cached.tag_in x)) (not (cached.is_busy x)) (stands.dirty_are s g ∙ dirty)
         (ap not (stands.busy_are s g ∙ none_busy w h (Page s g) done)))
 
-    clean : {k : ℕ} (b : Buf) → IsPageAt w k b → is_dirty w h b ≡ false
-    clean b is =
-        subst (λ x. is_dirty w h x ≡ false) (sym is.is)
-        (false_from_ne_true (is_dirty w h (Page is.serial is.page)) (λ dirty. at_page is.serial is.page dirty))
+    clean : (b : Buf) → is_dirty w h b ≡ false
+    clean (Page s g) = false_from_ne_true (is_dirty w h (Page s g)) (λ dirty. at_page s g dirty)
+    clean Bitmap = refl
+    clean (Dir k) = refl
+    clean (Inode s) = refl
 
-some_dirty : (w : Workload) (p : Pages) (tags : Tags) (h : List Event) (b : Buf) → IsAccepted w → IsLegal w h
-    → PagesStand w p tags h → IsReady p.cache b → list_any (is_dirty w h) (all_pages w) ≡ true
-some_dirty w p tags h (Page s g) accepted legal stands ready =
+-- a page that is dirty is among those that are known
+dirty_known : (w : Workload) (h : List Event) (b : Buf) → is_dirty w h b ≡ true
+    → list_any (is_dirty w h) (known_pages h) ≡ true
+dirty_known w h b dirty =
+    let found = find_some (same_buf b) (known_pages h)
+    (pages_are_known.unsettled w h b (or_left (is_dirty w h b) (is_busy w h b) dirty))
+    in list_any_here (is_dirty w h) (known_pages h) found.place found.element found.there
+    (subst (λ x. is_dirty w h x ≡ true) (same_buf-is b found.element found.passes) dirty)
+
+some_dirty : (w : Workload) (p : Pages) (tags : Tags) (h : List Event) (b : Buf) → PagesStand w p tags h
+    → IsReady p.cache b → list_any (is_dirty w h) (known_pages h) ≡ true
+some_dirty w p tags h (Page s g) stands ready =
     let x = cached.page_of p.cache (Page s g)
     in let both = and_parts (is_some (cached.tag_in x)) (not (cached.is_busy x)) (sym (ready_is x) ∙ ready)
-    in let dirty : is_dirty w h (Page s g) ≡ true = sym (stands.dirty_are s g) ∙ both.0
-    in let put = (and_parts (is_live_page w h (Page s g)) (is_put_since h (Page s g)) dirty).1
-    in let within = put_within w h s g accepted legal put
-    in any_page (is_dirty w h) w s g within.0 within.1 dirty
-some_dirty w p tags h Bitmap accepted legal stands ready =
+    in dirty_known w h (Page s g) (sym (stands.dirty_are s g) ∙ both.0)
+some_dirty w p tags h Bitmap stands ready =
     absurd (stands.pages_alone Bitmap (ready_held (cached.page_of p.cache Bitmap) ready))
-some_dirty w p tags h (Dir k) accepted legal stands ready =
+some_dirty w p tags h (Dir k) stands ready =
     absurd (stands.pages_alone (Dir k) (ready_held (cached.page_of p.cache (Dir k)) ready))
-some_dirty w p tags h (Inode s) accepted legal stands ready =
+some_dirty w p tags h (Inode s) stands ready =
     absurd (stands.pages_alone (Inode s) (ready_held (cached.page_of p.cache (Inode s)) ready))
 
 -- ---- all together
@@ -162,7 +143,7 @@ pub requests_left : (w : Workload) (d : Dispatch) (h : List Event) → DispatchS
     → (length d.queue.queued == 0 && length d.queue.in_flight == 0) ≡ false → is_drained w h ≡ false
 requests_left w d h stands some =
     some_left (list_all (is_finished w h) (processes w)) (length (queued h) == 0) (length (in_flight h) == 0)
-    (not (list_any (is_dirty w h) (all_pages w)))
+    (not (list_any (is_dirty w h) (known_pages h)))
     (ap (λ l. length l == 0 && length (in_flight h) == 0) (sym stands.queued_are)
     ∙ ap (λ n. length d.queue.queued == 0 && n == 0)
     (sym (ap length stands.sent_are) ∙ length-map d.queue.in_flight (λ (x : Request × ℕ). x.0))
@@ -184,7 +165,7 @@ drained_by w plan p h o r is stands all empty none some =
     in by_first o is none some done (tests (all_finished w p.clients h stands.parts.clients all) queue flight)
   where
     tests : list_all (is_finished w h) (processes w) ≡ true → queued h ≡ [] → in_flight h ≡ []
-        → not (list_any (is_dirty w h) (all_pages w)) ≡ is_drained w h
+        → not (list_any (is_dirty w h) (known_pages h)) ≡ is_drained w h
     tests finished queue flight = rw (finished, queue, flight) refl
 
     flip : (r : Bool) {b : Bool} → b ≡ not r → r ≡ not b
@@ -193,11 +174,10 @@ drained_by w plan p h o r is stands all empty none some =
 
     by_first : (o : Option Buf) → is_some o ≡ not r → IfNone o ((b : Buf) → IsReady p.pages.cache b → ⊥)
         → IfSome o (IsFirstReady p.pages.cache) → unfinished h ≡ []
-        → not (list_any (is_dirty w h) (all_pages w)) ≡ is_drained w h → r ≡ is_drained w h
+        → not (list_any (is_dirty w h) (known_pages h)) ≡ is_drained w h → r ≡ is_drained w h
     by_first None same none some done is =
         flip r same ∙ sym (ap not (none_dirty w p.pages (tags_of p.tags) h stands.parts.pages done none)) ∙ is
     by_first (Some b) same none some done is =
         flip r same
-        ∙ sym (ap not (some_dirty w p.pages (tags_of p.tags) h b stands.accepted stands.legal stands.parts.pages
-        some.ready))
+        ∙ sym (ap not (some_dirty w p.pages (tags_of p.tags) h b stands.parts.pages some.ready))
         ∙ is

@@ -1,4 +1,14 @@
+pub mod FitsLawsBlocks
+pub mod FitsLawsFiles
 pub mod FitsLaws
+pub mod FilingFilesLists
+pub mod LiveSlots
+pub mod FilingFiles
+pub mod FilingFilesFound
+pub mod FilingFilesNotes
+pub mod FilingFilesLetGo
+pub mod FilingFilesEvents
+pub mod FilingFilesMade
 pub mod PartNotes
 pub mod MoneyNotes
 pub mod AwaitLaws
@@ -7,10 +17,13 @@ pub mod BookNotes
 pub mod DispatchNotes
 pub mod CountNotes
 pub mod PlanNotes
-pub mod NameNotes
 pub mod NextReads
+pub mod FilesRead
+pub mod PromiseReads
 pub mod NextReadsServes
+pub mod ServingReads
 pub mod ClientViewsPages
+pub mod ClientViewsFiles
 pub mod ClientViews
 pub mod DrainReads
 pub mod FactsReads
@@ -24,6 +37,7 @@ pub mod MediumNotesDones
 pub mod MediumNotesStart
 pub mod PageFacts
 pub mod PageOrder
+pub mod PageHoles
 pub mod PageNotes
 pub mod PageQuiet
 pub mod PageTags
@@ -32,6 +46,7 @@ pub mod PagePuts
 pub mod PageLoads
 pub mod PageReads
 pub mod PageRuns
+pub mod PageDrops
 pub mod PageKinds
 pub mod PageDones
 pub mod PageSettles
@@ -40,3 +55,9 @@ pub mod PageAdds
 pub mod PageTakes
 pub mod PageCargo
 pub mod PageStart
+pub mod FilingBlocksUsed
+pub mod FilingBlocksFree
+pub mod FilingBlocks
+pub mod FilingBlocksMaps
+pub mod FilingBlocksDrops
+pub mod FilingBlocksStart

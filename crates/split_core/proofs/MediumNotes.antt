@@ -76,7 +76,7 @@ pub medium_add_write : (w : Workload) (h : List Event) (by : Actor) (r : Request
     → MediumStands w new (h ▹ Add by r)
 medium_add_write w h by r m new bytes accepted legal stands writing is same pushed = record {
   size = ap (λ d. length d.blocks) same ∙ stands.size;
-  blocks = λ x low high. ap (λ d. block_at d.blocks x) same ∙ stands.blocks x low high;
+  blocks = λ x below. ap (λ d. block_at d.blocks x) same ∙ stands.blocks x below;
   writes = ap (λ d. d.writes) same ∙ stands.writes ∙ sym (flight_kept w h (Add by r) accepted legal);
   carried =
       pushed ∙ ap (λ l. l ++ bytes ∷ []) (stands.carried ∙ sym (queued_kept w h (Add by r) accepted legal))

@@ -4,6 +4,7 @@ use Rattle.std.proofs.Common.{◌≡◌, ℕ, ◌+◌, ◌*◌, ◌<◌, ◌≤�
 use Rattle.std.proofs.lemmas.Bool.{both_ways, and_from, le-leb, lt-ltb, cases_lt}
 use Rattle.std.proofs.lemmas.Option.{slice_get_within, same_Some}
 use Rattle.split_types.specs.declared.ids.Pid.{Pid}
+use Rattle.split_types.specs.declared.ids.Serial.{Serial}
 use Rattle.split_types.specs.declared.request.ReqKind.TheVariants.{Read}
 use Rattle.split_types.specs.declared.request.Request.{Request}
 use Rattle.split_types.specs.declared.workload.Workload.{Workload}
@@ -14,8 +15,8 @@ use Rattle.split_types.specs.DiskBytes.{carried, adding, writes}
 use Rattle.split_types.specs.Accepted.{IsAccepted}
 use Rattle.split_types.specs.Legal.{IsLegal}
 use Rattle.split_types.specs.Proving.Known.{Known}
-use Rattle.split_types.specs.Proving.Runs.{MovesPages, MovesRun}
-use Rattle.split_types.proofs.Shared.{find_some, counted_here, any_counted, number_here, same_number, known, adding_kept, adding_there, before_legal, writes_apart, whole_page}
+use Rattle.split_types.specs.Proving.Runs.{MovesPages}
+use Rattle.split_types.proofs.Shared.{find_some, counted_here, any_counted, number_here, same_number, known, adding_kept, adding_there, before_legal, writes_apart, whole_page, MovesIn}
 use Rattle.sim_disk.specs.Bytes.{block_of}
 use Rattle.sim_disk.specs.Medium.{InFlight}
 use Rattle.split_core.specs.Takings.{all_carried}
@@ -24,16 +25,15 @@ use Rattle.split_core.proofs.MediumNotesLists.{blocks_long, block_joined}
 
 -- ---- what a write carries
 -- each block that it carries is whole
-carried_whole : (w : Workload) (before : List Event) (r : Request) (i : ℕ) → IsAccepted w → IsLegal w before
-    → MovesRun w r → is_write r ≡ true → length (carried w before r i) ≡ 4096
-carried_whole w before r i accepted legal run writing = by_kind run.kind
+carried_whole : (w : Workload) (before : List Event) (r : Request) (s : Serial) (g i : ℕ) → IsAccepted w
+    → IsLegal w before → MovesPages r.kind s g → is_write r ≡ true → length (carried w before r i) ≡ 4096
+carried_whole w before r s g i accepted legal (inl kind) writing =
+    rw kind (whole_page w before s (g + i) accepted legal)
+carried_whole w before r s g i accepted legal (inr (by, kind)) writing =
+    absurd (both_ways (is_write r) (reads by kind) writing)
   where
-    reads : (by : Pid) → r.kind ≡ Read by run.serial run.page → is_write r ≡ false
+    reads : (by : Pid) → r.kind ≡ Read by s g → is_write r ≡ false
     reads by kind = rw kind refl
-
-    by_kind : MovesPages r.kind run.serial run.page → length (carried w before r i) ≡ 4096
-    by_kind (inl kind) = rw kind (whole_page w before run.serial (run.page + i) accepted legal)
-    by_kind (inr (by, kind)) = absurd (both_ways (is_write r) (reads by kind) writing)
 
 -- what a request that was added carries, if it writes
 pub record IsCargo (w : Workload) (h : List Event) (r : Request) : Type 0 where
@@ -48,8 +48,8 @@ pub cargo_of : (w : Workload) (h : List Event) (r : Request) → IsAccepted w �
 cargo_of w h r accepted legal own writing =
     let add = adding_there w h r.id.0 r accepted legal own
     in let earlier : IsLegal w add.0 = before_legal w h r.id (record { request = r; before = add.0 }) legal add.1
-    in let run : MovesRun w r = (known w h accepted legal).runs r.id.0 r own
-    in let each = λ (i : ℕ) (low : 0 ≤ i) (high : i < 0 + r.n). carried_whole w add.0 r i accepted earlier run writing
+    in let run : MovesIn w h r = (known w h accepted legal).runs r.id.0 r own
+    in let each = λ (i : ℕ) (low : 0 ≤ i) (high : i < 0 + r.n). carried_whole w add.0 r run.serial run.page i accepted earlier run.kind writing
     in let is : cargo w h r.id ≡ all_carried w add.0 r = ap (carried_by w) add.1
     in record {
       before = add.0;

@@ -63,7 +63,7 @@ pub medium_done_read : (w : Workload) (h : List Event) (k : ℕ) (id : ReqId) (r
 medium_done_read w h k id r m accepted legal stands at reading = record {
   size = stands.size;
   blocks =
-      λ x low high. stands.blocks x low high ∙ sym (after_other w h k id d x (disk_block w h x) (writes_none x));
+      λ x below. stands.blocks x below ∙ sym (after_other w h k id d x (disk_block w h x) (writes_none x));
   writes =
       stands.writes
       ∙ ap (map (flying w h)) (sym (filter_keeps is_write (λ q. not (is_numbered id q)) (in_flight h) stays));
@@ -133,10 +133,10 @@ pub medium_done_write : (w : Workload) (h : List Event) (k : ℕ) (id : ReqId) (
     → is_write r ≡ true → Finishes m new id → MediumStands w new (h ▹ Done k id true)
 medium_done_write w h k id r m new accepted legal stands at is_one finishes = record {
   size = over.size ∙ stands.size;
-  blocks = λ x low high. elim (cases_Bool (writes d.request x)) [
+  blocks = λ x below. elim (cases_Bool (writes d.request x)) [
     | inl own ↦ written x own ∙ sym (after_done w h k id d x (disk_block w h x) own)
     | inr none ↦
-        over.others x (outside x none) ∙ stands.blocks x low high
+        over.others x (outside x none) ∙ stands.blocks x below
         ∙ sym (after_other w h k id d x (disk_block w h x) none)
   ];
   writes =

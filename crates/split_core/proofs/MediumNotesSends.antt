@@ -15,8 +15,7 @@ use Rattle.split_types.specs.History.{◌▹◌}
 use Rattle.split_types.specs.Requests.{is_numbered, is_write, requests, queued, in_flight}
 use Rattle.split_types.specs.Accepted.{IsAccepted}
 use Rattle.split_types.specs.Legal.{IsLegal}
-use Rattle.split_types.specs.Proving.Runs.{MovesRun}
-use Rattle.split_types.proofs.Shared.{filter_there, map_there, find_none, counted_here, none_counted, none_in_filter, number_here, file_within, known}
+use Rattle.split_types.proofs.Shared.{filter_there, map_there, find_none, counted_here, none_counted, none_in_filter, number_here, MovesIn, run_within, maps_known, known}
 use Rattle.sim_disk.specs.Medium.{InFlight, is_of, write_of, AreApart}
 use Rattle.sim_disk.specs.Bytes.{block_at}
 use Rattle.split_core.specs.declared.note.medium.Medium.{Medium}
@@ -80,17 +79,6 @@ pub record MayStart (blocks : List (List ℕ)) (flight : List InFlight) (v : InF
   pub apart : All (AreApart v) flight
   pub other : write_of flight v.id ≡ None
 
--- a request of a legal history ends within the disk
-ends_within : (w : Workload) (r : Request) → IsAccepted w → MovesRun w r → r.first + r.n ≤ w.device
-ends_within w r accepted run =
-    omega (
-      arith,
-      run.place,
-      run.run.within,
-      file_within w run.serial.0 run.run.file,
-      accepted.workload.presets.fit,
-    )
-
 -- no write in flight is that of a request that is queued
 none_of : (w : Workload) (h : List Event) (r : Request) → IsAccepted w → IsLegal w h → slice_get (queued h) 0 ≡ Some r
     → write_of (map (flying w h) (filter is_write (in_flight h))) r.id ≡ None
@@ -125,10 +113,10 @@ may_start w h id cost m bytes accepted legal fits stands writing is =
     in let f = known w h accepted legal
     in let a = f.waiting
     in let own : slice_get (requests h) r.id.0 ≡ Some r = a.queue_of 0 r fits.first
-    in let run : MovesRun w r = f.runs r.id.0 r own
+    in let run : MovesIn w h r = f.runs r.id.0 r own
     in let c = cargo_of w h r accepted legal own writing
     in let long : length bytes ≡ 4096 * r.n = ap length is ∙ c.long
-    in let end = ends_within w r accepted run
+    in let end = run_within w h r accepted (maps_known.maps w h accepted legal) run
     in record {
       whole = omega (arith, long);
       within = omega (arith, long, end, stands.size);
@@ -196,7 +184,7 @@ medium_send_write w h id cost m new bytes accepted legal fits stands writing pop
     ≡ map (λ q. cargo w h q.id) (filter is_write (drop 1 (queued h))) = cc
     in record {
       size = ap length same ∙ stands.size;
-      blocks = λ x low high. ap (λ l. block_at l x) same ∙ stands.blocks x low high;
+      blocks = λ x below. ap (λ l. block_at l x) same ∙ stands.blocks x below;
       writes =
           started
           ∙ ap (λ v. m.disk.writes ++ v ∷ [])

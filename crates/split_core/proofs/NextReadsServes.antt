@@ -1,34 +1,112 @@
--- What writeback serves next is read from the cache.
-use Rattle.std.proofs.Common.{◌≡◌, ℕ, ◌+◌, ◌-◌, ◌<◌, ◌≤◌, min, List, [], length, slice_get, true, false, not, ◌&&◌}
-use Rattle.std.proofs.Common.{Option, Some, None, is_some, option_map, refl, ap, sym, ◌∙◌, subst, arith, inl, inr}
-use Rattle.std.specs.Prelude.{find}
-use Rattle.std.proofs.lemmas.Bool.{and_from, and_parts, or_cases, false_from_ne_true}
-use Rattle.std.proofs.lemmas.Option.{slice_get_within, same_Some}
+-- What writeback serves next is read from the cache and the files.
+use Rattle.std.proofs.Common.{◌≡◌, ℕ, zero, suc, ◌+◌, ◌<◌, ◌≤◌, ◌==◌, List, [], ◌∷◌, length, filter, slice_get, Bool, true}
+use Rattle.std.proofs.Common.{false, not, ◌&&◌, ◌||◌, Option, Some, None, is_some, refl, ap, sym, ◌∙◌, subst, arith, inl, inr}
+use Rattle.std.proofs.Common.{cond, if◌then◌else◌}
+use Rattle.std.specs.Prelude.{take_while, nat_lt, nat_le, IsSome}
+use Rattle.std.specs.List.{prefix_len, range_with_len}
+use Rattle.std.proofs.lemmas.Bool.{and_parts, or_left, false_from_ne_true, cond-true}
+use Rattle.std.proofs.lemmas.Bool.Decides.{nat_tests}
+use Rattle.std.proofs.lemmas.List.Folds.{length-prefix_len}
+use Rattle.std.proofs.lemmas.Option.{same_Some}
 use Rattle.split_types.specs.declared.ids.Serial.{Serial}
 use Rattle.split_types.specs.declared.buf.Buf.{Buf}
 use Rattle.split_types.specs.declared.buf.Buf.TheVariants.{Page, Bitmap, Dir, Inode}
+use Rattle.split_types.specs.declared.request.Run.{Run}
 use Rattle.split_types.specs.declared.workload.Workload.{Workload}
 use Rattle.split_types.specs.declared.event.Event.{Event}
-use Rattle.split_types.specs.declared.event.Event.TheVariants.{Put, Add, Serve}
-use Rattle.split_types.specs.History.{◌▹◌}
-use Rattle.split_types.specs.Hooks.{same_buf, covers}
-use Rattle.split_types.specs.Pages.{is_put_since, is_dirty, is_ready}
-use Rattle.split_types.specs.Parents.{pages_of}
-use Rattle.split_types.specs.Workloads.{all_pages, pages_in, page_index}
-use Rattle.split_types.specs.Writeback.{run_length, next_serve, serve_from}
+use Rattle.split_types.specs.declared.event.Event.TheVariants.{Serve}
+use Rattle.split_types.specs.Hooks.{same_buf}
+use Rattle.split_types.specs.Pages.{is_dirty, is_busy, is_ready}
+use Rattle.split_types.specs.HeldPages.{known_pages}
+use Rattle.split_types.specs.FileMaps.{mapped_block}
+use Rattle.split_types.specs.ServedRuns as served
+use Rattle.split_types.specs.ServedRuns.{is_up_to, lesser_page, least_page, first_ready, run_from, run_to_serve}
+use Rattle.split_types.specs.Serving.{next_serve}
 use Rattle.split_types.specs.Accepted.{IsAccepted}
 use Rattle.split_types.specs.Legal.{IsLegal}
-use Rattle.split_types.specs.Proving.Runs.{IsPageAt}
-use Rattle.split_types.proofs.Shared.{page_at, page_is, page_stands, length-pages_of, ready_parts, put_in_legal}
-use Rattle.split_types.proofs.Shared.{same_buf-is}
+use Rattle.split_types.proofs.Shared.{same_buf-is, find_some, filter_there, in_filter, pages_are_known, ready_parts, maps_known, least_there}
 use Rattle.cause_set.specs.Tags.{Tags}
-use Rattle.page_cache.specs.declared.state.PageState.{PageState}
+use Rattle.tag_table.specs.Tags.{tags_of}
+use Rattle.small_fs.specs.Files.{Files}
 use Rattle.page_cache.specs.Held.{Held}
 use Rattle.page_cache.specs.Cached as cached
+use Rattle.page_cache.specs.Cached.{Cached}
 use Rattle.page_cache.specs.Changes.{IsReady, IsUpTo, IsFirstReady}
-use Rattle.split_core.specs.declared.note.pages.Pages.{Pages}
-use Rattle.split_core.specs.Pages.{PagesStand}
-use Rattle.split_core.proofs.NextReads.{finds_none, finds_first, passing, index_before}
+use Rattle.writeback.specs.ServedRun.{CanServe, IsServedRun, IsNextRun, block_of, goes_on}
+use Rattle.split_core.specs.Pages.{CacheStands}
+use Rattle.split_core.specs.Filing.{FilesAre}
+use Rattle.split_core.specs.StandsFor.{StandsFor}
+use Rattle.split_core.specs.declared.plan.Plan.{Plan}
+use Rattle.split_core.specs.declared.parts.Parts.{Parts}
+use Rattle.split_core.proofs.FilesRead.{some_slot, block_seen}
+
+-- ---- how long a run is
+prefix_is : (p : ℕ → Bool) (m from n : ℕ) → n ≤ m → ((k : ℕ) → k < n → p (from + k) ≡ true)
+    → (n < m → p (from + n) ≡ false) → prefix_len p (range_with_len from m) ≡ n
+prefix_is p zero from n most pass end = omega (arith, most)
+prefix_is p (suc m) from zero most pass end =
+    let same : from + 0 ≡ from = omega arith in
+    ap (λ b. cond b (1 + prefix_len p (range_with_len (from + 1) m)) 0)
+    (subst (λ j. p j ≡ false) same (end (omega arith)))
+prefix_is p (suc m) from (suc n) most pass end =
+    let same : from + 0 ≡ from = omega arith in
+    let rest : prefix_len p (range_with_len (from + 1) m) ≡ n =
+    prefix_is p m (from + 1) n (omega arith)
+    (λ k below. subst (λ j. p j ≡ true) (omega arith) (pass (k + 1) (omega (arith, below))))
+    (λ below. subst (λ j. p j ≡ false) (omega arith) (end (omega (arith, below)))) in
+    let first : prefix_len p (range_with_len from (suc m)) ≡ 1 + prefix_len p (range_with_len (from + 1) m) =
+    ap (λ b. cond b (1 + prefix_len p (range_with_len (from + 1) m)) 0)
+    (subst (λ j. p j ≡ true) same (pass 0 (omega arith))) in
+    omega (arith, first, rest)
+
+length_is : (p : ℕ → Bool) (m n : ℕ) → n ≤ m → ((k : ℕ) → k < n → p k ≡ true)
+    → (n < m → p n ≡ false) → length (take_while p (range_with_len 0 m)) ≡ n
+length_is p m n most pass end =
+    length-prefix_len p (range_with_len 0 m)
+    ∙ prefix_is p m 0 n most (λ k below. subst (λ j. p j ≡ true) (omega arith) (pass k below))
+    (λ below. subst (λ j. p j ≡ false) (omega arith) (end below))
+
+-- ---- the first of some pages
+numbers : (s t g k : ℕ) → (nat_lt s t || (s == t && nat_le g k)) ≡ true → (nat_lt t s || (t == s && nat_le k g)) ≡ true
+    → (s ≡ t) × (g ≡ k)
+numbers s t g k up down = (grind (arith, nat_tests), grind (arith, nat_tests))
+
+same_page : (s : Serial) (g : ℕ) (b : Buf) → is_up_to (Page s g) b ≡ true → is_up_to b (Page s g) ≡ true
+    → b ≡ Page s g
+same_page s g (Page t k) up down =
+    let same = numbers s.0 t.0 g k up down in
+    ap (λ n. Page (record { 0 = n }) k) (sym same.0) ∙ ap (Page s) (sym same.1)
+same_page s g Bitmap up down = absurd (cc)
+same_page s g (Dir k) up down = absurd (cc)
+same_page s g (Inode k) up down = absurd (cc)
+
+least_is : (bufs : List Buf) (s : Serial) (g i : ℕ) → slice_get bufs i ≡ Some (Page s g)
+    → ((j : ℕ) (b : Buf) → slice_get bufs j ≡ Some b → is_up_to (Page s g) b ≡ true)
+    → least_page bufs ≡ Some (Page s g)
+least_is [] s g i at all = absurd (cc)
+least_is (b ∷ bufs) s g zero at all = by_rest (least_page bufs) refl
+  where
+    same : b ≡ Page s g
+    same = same_Some b (Page s g) at
+
+    by_rest : (o : Option Buf) → least_page bufs ≡ o → lesser_page b o ≡ Some (Page s g)
+    by_rest None rest = ap Some same
+    by_rest (Some d) rest =
+        let there = least_there bufs d rest in
+        cond-true (is_up_to b d) (Some b) (Some d)
+        (subst (λ x. is_up_to x d ≡ true) (sym same) (all (suc there.0) d there.1))
+        ∙ ap Some same
+least_is (b ∷ bufs) s g (suc i) at all =
+    ap (lesser_page b) (least_is bufs s g i at (λ j d there. all (suc j) d there)) ∙ by_test (is_up_to b (Page s g)) refl
+  where
+    by_test : (t : Bool) → is_up_to b (Page s g) ≡ t → (if t then Some b else Some (Page s g)) ≡ Some (Page s g)
+    by_test true is = ap Some (same_page s g b (all 0 b refl) is)
+    by_test false is = refl
+
+-- where none passes there is no first
+least_none : (p : Buf → Bool) (bufs : List Buf) → ((b : Buf) → p b ≡ false) → least_page (filter p bufs) ≡ None
+least_none p [] none = refl
+least_none p (b ∷ bufs) none = rw (none b) (least_none p bufs none)
 
 -- ---- pages that are ready
 -- a page is ready in the cache where it is dirty there and not busy
@@ -37,136 +115,125 @@ ready_in None = refl
 ready_in (Some p) = refl
 
 -- so it is ready there where it is ready
-page_ready : (w : Workload) (p : Pages) (tags : Tags) (h : List Event) (s : Serial) (g : ℕ) → PagesStand w p tags h
-    → cached.is_ready (cached.page_of p.cache (Page s g)) ≡ is_ready w h (Page s g)
-page_ready w p tags h s g stands =
-    let x = cached.page_of p.cache (Page s g) in
+page_ready : (w : Workload) (c : Cached) (tags : Tags) (h : List Event) (s : Serial) (g : ℕ) → CacheStands w c tags h
+    → cached.is_ready (cached.page_of c (Page s g)) ≡ is_ready w h (Page s g)
+page_ready w c tags h s g stands =
+    let x = cached.page_of c (Page s g) in
     ready_in x ∙ ap (λ b. b && not (cached.is_busy x)) (stands.dirty_are s g)
     ∙ ap (λ b. is_dirty w h (Page s g) && not b) (stands.busy_are s g)
 
--- a page that was found dirty and not busy is ready
-pub found_ready : (x : Option Held) (s : PageState) → option_map cached.state_of x ≡ Some s → s.dirty ≡ true
-    → not s.busy ≡ true → cached.is_ready x ≡ true
-found_ready None s is dirty idle = absurd (cc (is))
-found_ready (Some p) s is dirty idle =
-    let same : cached.state_of p ≡ s = same_Some (cached.state_of p) s is in
-    and_from (is_some p.tag) (not p.state.busy) (ap (λ y. y.dirty) same ∙ dirty) (ap (λ y. not y.busy) same ∙ idle)
+-- the cache and the files stand for a history
+pub record Mirror (w : Workload) (h : List Event) (c : Cached) (tags : Tags) (fs : Files) : Type 0 where
+  pub accepted : IsAccepted w
+  pub legal : IsLegal w h
+  pub cache : CacheStands w c tags h
+  pub files : FilesAre w fs h
 
--- the first page that is ready is a page
-pub first_is_page : (c : cached.Cached) (b : Buf) → IsFirstReady c b → (s : Serial) × (g : ℕ) × (b ≡ Page s g)
-first_is_page c (Page s g) first = (s, g, refl)
-first_is_page c Bitmap first = absurd (first.first Bitmap first.ready)
-first_is_page c (Dir k) first = absurd (first.first (Dir k) first.ready)
-first_is_page c (Inode t) first = absurd (first.first (Inode t) first.ready)
+module _ (w : Workload) (h : List Event) (c : Cached) (tags : Tags) (fs : Files) (m : Mirror w h c tags fs) where
+  here : (s : Serial) (g : ℕ) → IsReady c (Page s g) → is_ready w h (Page s g) ≡ true
+  here s g ready = sym (page_ready w c tags h s g m.cache) ∙ ready
 
--- ---- pages that were put
--- a page of a preset file
-abbrev pub InFiles : Workload → Buf → Type 0
-InFiles w (Page s g) = (s.0 < length w.files) × (g < pages_in w s.0)
-InFiles w _ = ⊥
+  -- the number of a page that is ready
+  small : (s : Serial) (g : ℕ) → is_ready w h (Page s g) ≡ true → g < 1008
+  small s g ready = ((maps_known.maps w h m.accepted m.legal).put s g (ready_parts w h s g ready).put).1
 
-put_preset : (w : Workload) (h : List Event) (b : Buf) → IsAccepted w → IsLegal w h → is_put_since h b ≡ true
-    → InFiles w b
-put_preset w [] b accepted legal put = absurd (cc)
-put_preset w (h ▹ Put by t k from to fill) b accepted legal put =
-    elim (or_cases (same_buf b (Page t k)) (is_put_since h b) put) [
-      | inl same ↦
-          (let p = put_in_legal w h by t k from to fill accepted legal in
-          subst (InFiles w) (sym (same_buf-is b (Page t k) same)) (p.file, p.page))
-      | inr old ↦ put_preset w h b accepted legal.1 old
-    ]
-put_preset w (h ▹ Add by r) b accepted legal put =
-    put_preset w h b accepted legal.1 (and_parts (not (covers r b)) (is_put_since h b) put).1
-put_preset w (h ▹ e) b accepted legal put = put_preset w h b accepted legal.1 put
+  -- its file is there
+  pub can_serve : CanServe c fs
+  can_serve = record {
+    numbers = λ s g ready. small s g (here s g ready);
+    files = λ s g ready. subst IsSome
+        (sym (some_slot w h fs s m.accepted m.legal m.files (ready_parts w h s g (here s g ready)).live)) refl;
+  }
 
--- what is ready is a page of a preset file
-pub ready_preset : (w : Workload) (h : List Event) (s : Serial) (g : ℕ) → IsAccepted w → IsLegal w h
-    → is_ready w h (Page s g) ≡ true → (s.0 < length w.files) × (g < pages_in w s.0)
-ready_preset w h s g accepted legal ready = put_preset w h (Page s g) accepted legal (ready_parts w h s g ready).put
+  -- its block
+  block_is : (s : Serial) (g : ℕ) → is_ready w h (Page s g) ≡ true → block_of fs s g ≡ mapped_block w h s.0 g
+  block_is s g ready =
+      block_seen w h fs s g m.accepted m.legal m.files (ready_parts w h s g ready).live (small s g ready)
 
--- ---- the first page that is ready
-pub found_none : (w : Workload) (p : Pages) (tags : Tags) (h : List Event) → PagesStand w p tags h
-    → ((b : Buf) → IsReady p.cache b → ⊥) → find (is_ready w h) (all_pages w) ≡ None
-found_none w p tags h stands none =
-    finds_none (is_ready w h) (all_pages w) (λ k a at. by_page a (page_is w k a at))
-  where
-    by_page : {k : ℕ} (a : Buf) → IsPageAt w k a → is_ready w h a ≡ false
-    by_page a page =
-        false_from_ne_true (is_ready w h a) (λ is. none (Page page.serial page.page)
-        (page_ready w p tags h page.serial page.page stands ∙ subst (λ b. is_ready w h b ≡ true) page.is is))
+  -- a page goes on with a run
+  goes_is : (s : Serial) (g k : ℕ) → is_ready w h (Page s g) ≡ true
+      → goes_on c fs s g k ≡ served.goes_on w h s g k
+  goes_is s g k first =
+      ap (λ b. b && served.are_apart k (block_of fs s g) (block_of fs s (g + k)))
+      (page_ready w c tags h s (g + k) m.cache)
+      ∙ by_ready (is_ready w h (Page s (g + k))) refl
+    where
+      by_ready : (b : Bool) → is_ready w h (Page s (g + k)) ≡ b
+          → (b && served.are_apart k (block_of fs s g) (block_of fs s (g + k)))
+          ≡ (b && served.are_apart k (mapped_block w h s.0 g) (mapped_block w h s.0 (g + k)))
+      by_ready true is =
+          ap (λ (o : Option ℕ). served.are_apart k o (block_of fs s (g + k))) (block_is s g first)
+          ∙ ap (λ (o : Option ℕ). served.are_apart k (mapped_block w h s.0 g) o) (block_is s (g + k) is)
+      by_ready false is = refl
 
--- the cache's first page that is ready
-pub record IsFound (w : Workload) (h : List Event) (s : Serial) (g : ℕ) : Type 0 where
-  pub file : s.0 < length w.files
-  pub page : g < pages_in w s.0
-  pub found : find (is_ready w h) (all_pages w) ≡ Some (Page s g)
+  -- ---- the first page that is ready
+  -- only pages are
+  none_ready : ((b : Buf) → IsReady c b → ⊥) → (b : Buf) → is_ready w h b ≡ false
+  none_ready none (Page s g) =
+      false_from_ne_true (is_ready w h (Page s g)) (λ is. none (Page s g) (page_ready w c tags h s g m.cache ∙ is))
+  none_ready none Bitmap = refl
+  none_ready none (Dir k) = refl
+  none_ready none (Inode s) = refl
 
-pub found_first : (w : Workload) (p : Pages) (tags : Tags) (h : List Event) (s : Serial) (g : ℕ) → IsAccepted w
-    → IsLegal w h → PagesStand w p tags h → IsFirstReady p.cache (Page s g) → IsFound w h s g
-found_first w p tags h s g accepted legal stands first =
-    record {
-      file = preset.0;
-      page = preset.1;
-      found = finds_first (is_ready w h) (all_pages w) (page_index w s.0 g) (Page s g)
-          (page_stands w s g preset.0 preset.1) ready
-          (λ k a before at. false_from_ne_true (is_ready w h a) (not_before k a before (page_is w k a at)));
-    }
-  where
-    ready : is_ready w h (Page s g) ≡ true
-    ready = sym (page_ready w p tags h s g stands) ∙ first.ready
+  up_to : (s t : Serial) (g k : ℕ) → IsUpTo (Page s g) (Page t k) → is_up_to (Page s g) (Page t k) ≡ true
+  up_to s t g k (inl lower) = grind (arith, nat_tests)
+  up_to s t g k (inr same) = let file = same.0 in let page = same.1 in grind (arith, nat_tests)
 
-    preset : (s.0 < length w.files) × (g < pages_in w s.0)
-    preset = ready_preset w h s g accepted legal ready
+  all_behind : (s : Serial) (g : ℕ) → IsFirstReady c (Page s g) → (b : Buf) → is_ready w h b ≡ true
+      → is_up_to (Page s g) b ≡ true
+  all_behind s g first (Page t k) ready =
+      up_to s t g k (first.first (Page t k) (page_ready w c tags h t k m.cache ∙ ready))
+  all_behind s g first Bitmap ready = absurd (cc)
+  all_behind s g first (Dir k) ready = absurd (cc)
+  all_behind s g first (Inode t) ready = absurd (cc)
 
-    not_before : (k : ℕ) (a : Buf) → k < page_index w s.0 g → IsPageAt w k a → is_ready w h a ≡ true → ⊥
-    not_before k a before page is =
-        let there : is_ready w h (Page page.serial page.page) ≡ true =
-        subst (λ b. is_ready w h b ≡ true) page.is is in
-        let up : IsUpTo (Page s g) (Page page.serial page.page) =
-        first.first (Page page.serial page.page) (page_ready w p tags h page.serial page.page stands ∙ there) in
-        elim up [
-          | inl lower ↦
-              omega (
-                arith,
-                before,
-                page.index,
-                index_before w s.0 page.serial.0 g page.page lower preset.1,
-              )
-          | inr same ↦ omega (arith, before, page.index, same.1, ap (λ t. page_index w t page.page) same.0)
-        ]
+  first_is : (s : Serial) (g : ℕ) → IsFirstReady c (Page s g) → first_ready w h ≡ Some (Page s g)
+  first_is s g first =
+      let ready = here s g first.ready in
+      let known = find_some (same_buf (Page s g)) (known_pages h)
+      (pages_are_known.unsettled w h (Page s g) (or_left (is_dirty w h (Page s g)) (is_busy w h (Page s g))
+      (and_parts (is_dirty w h (Page s g)) (not (is_busy w h (Page s g))) ready).0)) in
+      let same : known.element ≡ Page s g = sym (same_buf-is (Page s g) known.element known.passes) in
+      let at = in_filter (is_ready w h) (known_pages h) known.place (Page s g) (known.there ∙ ap Some same) ready in
+      least_is (filter (is_ready w h) (known_pages h)) s g at.0 at.1
+      (λ j b there. all_behind s g first b (filter_there (is_ready w h) (known_pages h) j b there).2)
 
-pub found_at : (w : Workload) (p : Pages) (tags : Tags) (h : List Event) (b : Buf) (s : Serial) (g : ℕ)
-    → IsAccepted w → IsLegal w h → PagesStand w p tags h → IsFirstReady p.cache b → b ≡ Page s g → IsFound w h s g
-found_at w p tags h b s g accepted legal stands first is =
-    found_first w p tags h s g accepted legal stands (subst (IsFirstReady p.cache) is first)
+  -- ---- the run
+  run_is : (run : Run) → IsServedRun c fs run → run_from w h (Page run.serial run.page) ≡ Some run
+  run_is run is =
+      let first = here run.serial run.page is.first.ready in
+      ap (λ n. let r : Run = record { serial = run.serial; page = run.page; n = n } in Some r)
+      (length_is (served.goes_on w h run.serial run.page) 16 run.n is.most
+      (λ k below. sym (goes_is run.serial run.page k first) ∙ is.goes k below)
+      (λ below. sym (goes_is run.serial run.page run.n first) ∙ is.stops below))
 
--- the run from a page on, as long as the pages are ready
-run_read : (w : Workload) (h : List Event) (s : Serial) (g n : ℕ) → n ≤ min 16 (pages_in w s.0 - g)
-    → ((k : ℕ) → k < n → is_ready w h (Page s (g + k)) ≡ true)
-    → (n < min 16 (pages_in w s.0 - g) → is_ready w h (Page s (g + n)) ≡ false) → run_length w h s g ≡ n
-run_read w h s g n most ready end =
-    let m = min 16 (pages_in w s.0 - g) in
-    let long = length-pages_of s g m in
-    let same : (k : ℕ) (b : Buf) → k < m → slice_get (pages_of s g m) k ≡ Some b → Page s (g + k) ≡ b =
-    λ k b lt e. same_Some (Page s (g + k)) b (sym (page_at s g m k lt) ∙ e) in
-    passing (is_ready w h) (pages_of s g m) n (omega (arith, most, long))
-    (λ k b lt e. ap (is_ready w h) (sym (same k b (omega (arith, lt, most)) e)) ∙ ready k lt)
-    (λ b e. let lt = slice_get_within (pages_of s g m) n b e in
-    ap (is_ready w h) (sym (same n b (omega (arith, lt, long)) e)) ∙ end (omega (arith, lt, long)))
+  pub serves : (o : Option Run) → IsNextRun c fs o → run_to_serve w h ≡ o
+  serves None none =
+      ap (λ o. elim o [ None ↦ None | Some b ↦ run_from w h b ])
+      (least_none (is_ready w h) (known_pages h) (none_ready none))
+  serves (Some run) is =
+      ap (λ o. elim o [ None ↦ None | Some b ↦ run_from w h b ]) (first_is run.serial run.page is.first)
+      ∙ run_is run is
 
--- the serve of the run that the cache says is ready
-pub serves : (w : Workload) (p : Pages) (tags : Tags) (h : List Event) (s : Serial) (g n : ℕ) → PagesStand w p tags h
-    → IsFound w h s g → n ≤ min 16 (pages_in w s.0 - g) → ((k : ℕ) → k < n → IsReady p.cache (Page s (g + k)))
-    → (n < min 16 (pages_in w s.0 - g) → IsReady p.cache (Page s (g + n)) → ⊥)
-    → Some (Serve s g n) ≡ next_serve w h
-serves w p tags h s g n stands first most ready end =
-    ap (λ m. Some (Serve s g m)) (sym (run_read w h s g n most
-    (λ k lt. sym (page_ready w p tags h s (g + k) stands) ∙ ready k lt)
-    (λ lt. false_from_ne_true (is_ready w h (Page s (g + n)))
-    (λ is. end lt (page_ready w p tags h s (g + n) stands ∙ is)))))
-    ∙ ap (λ o. elim o [ None ↦ None | Some b ↦ serve_from w h b ]) (sym first.found)
+-- ---- from the parts
+mirror : (w : Workload) (plan : Plan) (p : Parts) (h : List Event) → StandsFor w plan p h
+    → Mirror w h p.pages.cache (tags_of p.tags) p.filing.fs
+mirror w plan p h stands = record {
+  accepted = stands.accepted;
+  legal = stands.legal;
+  cache = stands.parts.pages;
+  files = stands.parts.filing.files;
+}
 
-pub serves_none : (w : Workload) (p : Pages) (tags : Tags) (h : List Event) → PagesStand w p tags h
-    → ((b : Buf) → IsReady p.cache b → ⊥) → None ≡ next_serve w h
-serves_none w p tags h stands none =
-    ap (λ o. elim o [ None ↦ None | Some b ↦ serve_from w h b ]) (sym (found_none w p tags h stands none))
+pub may_serve : (w : Workload) (plan : Plan) (p : Parts) (h : List Event) → StandsFor w plan p h
+    → CanServe p.pages.cache p.filing.fs
+may_serve w plan p h stands =
+    can_serve w h p.pages.cache (tags_of p.tags) p.filing.fs (mirror w plan p h stands)
+
+abbrev pub serve_of : Option Run → Option Event
+serve_of o = elim o [ None ↦ None | Some run ↦ Some (Serve run.serial run.page run.n) ]
+
+pub serve_is : (w : Workload) (plan : Plan) (p : Parts) (h : List Event) (o : Option Run) → StandsFor w plan p h
+    → IsNextRun p.pages.cache p.filing.fs o → serve_of o ≡ next_serve w h
+serve_is w plan p h o stands is =
+    ap serve_of (sym (serves w h p.pages.cache (tags_of p.tags) p.filing.fs (mirror w plan p h stands) o is))

@@ -52,7 +52,7 @@ load_of w h by r p s g q tags before is =
     in let client = before.fits.by p known.0
     in record {
       fits = fits;
-      few = omega (arith, fits.preset.page, fits.preset.few);
+      few = fits.page.page;
       empty = none_held (page_of q.cache (Page s g)) (before.stands.held_are s g ∙ fits.absent);
       free = omega (arith, low, before.stands.limit, before.stands.held_counted);
       first = client.first;

@@ -1,5 +1,5 @@
 -- What a request for pages takes: their bytes, and the processes to blame for them.
-use Rattle.std.proofs.Common.{◌≡◌, ℕ, zero, suc, ◌+◌, ◌<◌, ◌≤◌, List, [], ◌∷◌, map, Bool, true, false, not, ◌&&◌}
+use Rattle.std.proofs.Common.{◌≡◌, ℕ, zero, suc, ◌+◌, ◌^◌, ◌<◌, ◌≤◌, List, [], ◌∷◌, map, Bool, true, false, not, ◌&&◌}
 use Rattle.std.proofs.Common.{◌||◌, Option, Some, None, is_some, refl, ap, sym, subst, ◌∙◌, arith}
 use Rattle.std.proofs.lemmas.Bool.{and_parts, both_ways}
 use Rattle.std.specs.List.{flat_map, range_with_len}
@@ -64,6 +64,7 @@ pub record RunOf (w : Workload) (h : List Event) (by : Actor) (r : Request) (s :
     pub some : 1 ≤ r.n
     pub few : r.n ≤ 16
     pub ready : (k : ℕ) → k < r.n → IsReady q.cache (Page s (g + k))
+    pub within : g + r.n < 2 ^ 32
 
 -- a page is ready in the cache where it is by the history
 ready_by : (x : Option Held) → cached.is_ready x ≡ (is_some (cached.tag_in x) && not (cached.is_busy x))
@@ -83,9 +84,10 @@ run_of w h by r s g q tags before is =
     (subst (λ (k : ReqKind). AddsKind w h by k r.n r.first) is before.fits.kind.kind).1
     in record {
       takes = record { accepted = before.accepted; legal = before.fits.legal; kind = is; ready = fits.ready };
-      some = fits.run.some;
-      few = fits.run.most;
+      some = fits.blocks.some;
+      few = fits.blocks.most;
       ready = λ k low. ready_is w h q.cache tags s (g + k) before.stands ∙ fits.ready k low;
+      within = omega (arith, fits.blocks.within);
     }
 
 -- ---- what stands
@@ -120,7 +122,7 @@ carried_run w h r s g i is = rw is refl
 
 pub taken_run : (w : Workload) (h : List Event) (by : Actor) (r : Request) (s : Serial) (g : ℕ) (q : Kept)
     (tags : Tags) (t : Taken) → PagesBefore w q tags h (Add by r) → r.kind ≡ Pages s g
-    → t.bytes.items ≡ flat_map (λ b. bytes_in (page_of q.cache b)) (pages_of s g r.n)
+    → t.cargo ≡ flat_map (λ b. bytes_in (page_of q.cache b)) (pages_of s g r.n)
     → t.tag ≡ union_of (map (causes_of tags q.cache) (pages_of s g r.n)) → IsTaken w h (Add by r) t
 taken_run w h by r s g q tags t before is bytes set = record {
   bytes = λ writes. bytes

@@ -1,19 +1,24 @@
 -- What stands after an event, by its kind.
-use Rattle.std.proofs.Common.{◌≡◌, ℕ, List, Option, None, ap, sym, subst, ◌∙◌, arith}
+use Rattle.std.proofs.Common.{◌≡◌, ℕ, ◌<◌, ◌≤◌, List, Bool, true, false, Option, None, is_some, refl, ap, sym, subst}
+use Rattle.std.proofs.Common.{◌∙◌, arith}
 use Rattle.split_types.specs.declared.ids.Pid.{Pid}
 use Rattle.split_types.specs.declared.ids.Serial.{Serial}
+use Rattle.split_types.specs.declared.ids.Slot.{Slot}
 use Rattle.split_types.specs.declared.buf.Buf.TheVariants.{Page}
 use Rattle.split_types.specs.declared.call.Reply.{Reply}
 use Rattle.split_types.specs.declared.workload.Workload.{Workload}
 use Rattle.split_types.specs.declared.event.Event.{Event}
-use Rattle.split_types.specs.declared.event.Event.TheVariants.{Get, Ret, Evict}
+use Rattle.split_types.specs.declared.event.Event.TheVariants.{Get, Drop, Ret, Evict}
 use Rattle.split_types.specs.History.{◌▹◌}
-use Rattle.cause_set.specs.Tags.{Tags, held, same, use_in}
-use Rattle.page_cache.specs.Cached.{Cached, page_of, tags_in}
-use Rattle.page_cache.specs.Changes.{ChangesOnly, ChangesEach, Touches, KeepsTouches, IsVictim, unpinned}
+use Rattle.cause_set.specs.Tags.{Tags, Moved, held, same, use_in}
+use Rattle.page_cache.specs.Cached.{Cached, page_of, is_loading, tags_in}
+use Rattle.page_cache.specs.Changes.{ChangesOnly, ChangesEach, Frees, KeepsTouches, IsVictim, unpinned}
 use Rattle.split_core.specs.declared.note.pages.Pages.{Pages}
-use Rattle.split_core.specs.Pages.{PagesBefore, PagesAfter}
-use Rattle.split_core.proofs.PageNotes.{pages_ret, pages_get}
+use Rattle.split_core.specs.Pages.{CacheStands, PagesBefore, PagesAfter, Gets}
+use Rattle.split_core.proofs.PageNotes.{pages_ret, pages_get, pages_hole}
+use Rattle.split_core.proofs.PageTags.{tags_moved}
+use Rattle.split_core.proofs.PageLoads.{none_held}
+use Rattle.split_core.proofs.PageDrops.{pages_drop}
 use Rattle.split_core.proofs.PageEvicts.{idle_rests, victim_is, pages_evict}
 
 pub after_as : (w : Workload) (p : Pages) (tags : Tags) (h : List Event) (e d : Event) → e ≡ d
@@ -35,16 +40,45 @@ after_ret w h e by reply p q tags is before each same_tags =
     }
 
 pub after_get : (w : Workload) (h : List Event) (e : Event) (by : Pid) (s : Serial) (g from to sum : ℕ) (p q : Pages)
-    (mid : Cached) (tags : Tags) → e ≡ Get by s g from to sum → PagesBefore w p tags h e
-    → mid ≡ record p.cache { touches = mid.touches } → Touches p.cache mid (Page s g)
-    → ChangesEach mid q.cache (λ k. unpinned by) → tags_in q.cache ≡ tags_in mid → PagesAfter w q tags (h ▹ e)
-after_get w h e by s g from to sum p q mid tags is before same_places touches each same_tags =
+    (tags : Tags) → e ≡ Get by s g from to sum → PagesBefore w p tags h e → Gets p.cache q.cache (Page s g) by
+    → PagesAfter w q tags (h ▹ e)
+after_get w h e by s g from to sum p q tags is before gets =
+    after_as w q tags h e (Get by s g from to sum) is record {
+      stands = by_held (is_some (page_of p.cache (Page s g))) refl;
+      tags = λ n. b.tags n ∙ ap (λ (c : Cached). held same (tags_in c) n) (sym gets.touches.rest)
+          ∙ ap (λ l. held same l n) (sym gets.tags);
+    }
+  where
+    b : PagesBefore w p tags h (Get by s g from to sum)
+    b = before_as w p tags h e (Get by s g from to sum) is before
+
+    by_held : (t : Bool) → is_some (page_of p.cache (Page s g)) ≡ t
+        → CacheStands w q.cache tags (h ▹ Get by s g from to sum)
+    by_held true here =
+        pages_get w h by s g from to sum p.cache gets.mid q.cache tags b.accepted b.fits.legal gets.touches.rest
+        (gets.touches.touched here) gets.pages b.stands
+    by_held false out =
+        pages_hole w h by s g from to sum p.cache q.cache tags b.accepted b.fits.legal
+        (none_held (page_of p.cache (Page s g)) out)
+        (subst (λ (c : Cached). ChangesEach c q.cache (λ k. unpinned by)) (gets.touches.still out) gets.pages) b.stands
+
+-- the page isn't loading, if it is held
+pub get_loaded : (w : Workload) (h : List Event) (e : Event) (by : Pid) (s : Serial) (g from to sum : ℕ) (p : Pages)
+    (tags : Tags) → e ≡ Get by s g from to sum → PagesBefore w p tags h e
+    → (is_loading (page_of p.cache (Page s g)) ≡ false) × (from < to) × (to ≤ 4096)
+get_loaded w h e by s g from to sum p tags is before =
     let b = before_as w p tags h e (Get by s g from to sum) is before
-    in after_as w q tags h e (Get by s g from to sum) is record {
-      stands = pages_get w h by s g from to sum p.cache mid q.cache tags b.accepted b.fits.legal same_places touches
-          each b.stands;
-      tags = λ n. b.tags n ∙ ap (λ (c : Cached). held same (tags_in c) n) (sym same_places)
-          ∙ ap (λ l. held same l n) (sym same_tags);
+    in (b.stands.loading_are s g ∙ b.fits.kind.loaded, b.fits.kind.some, b.fits.kind.most)
+
+-- ---- a drop
+pub after_drop : (w : Workload) (h : List Event) (e : Event) (by : Pid) (slot : Slot) (s : Serial) (p q : Pages)
+    (before after : Tags) → e ≡ Drop by slot s → PagesBefore w p before h e → Frees before after p.cache q.cache s
+    → Moved before after (held same (tags_in p.cache)) (held same (tags_in q.cache)) → PagesAfter w q after (h ▹ e)
+after_drop w h e by slot s p q before after is known frees moved =
+    let b = before_as w p before h e (Drop by slot s) is known
+    in after_as w q after h e (Drop by slot s) is record {
+      stands = pages_drop w h by slot s p.cache q.cache before after b.accepted b.fits.legal frees b.stands;
+      tags = tags_moved before after p.cache q.cache q.cache moved refl b.tags;
     }
 
 pub evicts : (w : Workload) (h : List Event) (e : Event) (by : Pid) (s : Serial) (g : ℕ) (p : Pages) (tags : Tags)

@@ -30,7 +30,7 @@ use Rattle.split_types.proofs.Shared.{running_causes}
 use Rattle.cause_set.specs.Tags.{Tags, same, set_in}
 use Rattle.page_cache.specs.Held.{Held}
 use Rattle.page_cache.specs.Cached as cached
-use Rattle.page_cache.specs.Cached.{Cached, page_of, held_in, unsettled_in, IsDataPage}
+use Rattle.page_cache.specs.Cached.{Cached, page_of, IsDataPage}
 use Rattle.page_cache.specs.Changes.{BeginsLoad, one_if, page_as}
 use Rattle.split_core.specs.Fits.{LoadFits}
 use Rattle.split_core.specs.Pages.{CacheStands}
@@ -198,6 +198,6 @@ pages_load w h by r p s g old new tags accepted legal is fits begins stands =
 
     alone : (b : Buf) → is_some (page_of new b) ≡ true → (t : Bool) → same_buf b (Page s g) ≡ t → IsDataPage b
     alone b held true here =
-        subst IsDataPage (sym (same_buf-is b (Page s g) here)) (omega (arith, fits.preset.page, fits.preset.few))
+        subst IsDataPage (sym (same_buf-is b (Page s g) here)) fits.page.page
     alone b held false other =
         stands.pages_alone b (sym (ap is_some (begins.page.others b (apart_pages b (Page s g) other))) ∙ held)

@@ -1,5 +1,7 @@
 -- What the cache holds is what the history holds, after events that change no page but for its pin.
-use Rattle.std.proofs.Common.{◌≡◌, ℕ, List, length, Option, is_some, IsSome, IsTrue, refl, ap, sym, ◌∙◌}
+use Rattle.std.proofs.Common.{◌≡◌, ℕ, List, length, Bool, true, false, Option, None, is_some, IsSome, IsTrue, refl, ap, sym}
+use Rattle.std.proofs.Common.{◌∙◌, if◌then◌else◌}
+use Rattle.std.proofs.lemmas.Bool.{both_ways}
 use Rattle.split_types.specs.declared.ids.Pid.{Pid}
 use Rattle.split_types.specs.declared.ids.Serial.{Serial}
 use Rattle.split_types.specs.declared.buf.Buf.{Buf}
@@ -9,19 +11,21 @@ use Rattle.split_types.specs.declared.workload.Workload.{Workload}
 use Rattle.split_types.specs.declared.event.Event.{Event}
 use Rattle.split_types.specs.declared.event.Event.TheVariants.{Get, Ret}
 use Rattle.split_types.specs.History.{◌▹◌}
+use Rattle.split_types.specs.Hooks.{same_buf}
 use Rattle.split_types.specs.Reads.{other_than}
 use Rattle.split_types.specs.HeldPages.{held_pages, unsettled_pages}
 use Rattle.split_types.specs.Victims.{last_touch}
 use Rattle.split_types.specs.PagesInCache.{CountsAre, IsThere, pin_of}
 use Rattle.split_types.specs.Accepted.{IsAccepted}
 use Rattle.split_types.specs.Legal.{IsLegal}
+use Rattle.split_types.proofs.Shared.{same_buf-is}
 use Rattle.split_types.proofs.Shared.{pages_change}
 use Rattle.split_types.proofs.Shared.{pins_change}
 use Rattle.split_types.proofs.Shared.{counts_change}
 use Rattle.split_types.proofs.Shared.{running_causes}
 use Rattle.cause_set.specs.Tags.{Tags, same, set_in}
 use Rattle.page_cache.specs.Cached as cached
-use Rattle.page_cache.specs.Cached.{Cached, page_of, touch_of, held_in, unsettled_in, IsDataPage}
+use Rattle.page_cache.specs.Cached.{Cached, page_of, held_in, unsettled_in, IsDataPage}
 use Rattle.page_cache.specs.Changes.{ChangesEach, KeepsTouches, Touches, unpinned}
 use Rattle.split_core.specs.Pages.{CacheStands}
 use Rattle.split_core.proofs.PageFacts.{Mirrors, mirrors, Leaves, LooksAs, looks_same, looks_then, looks_unpinned}
@@ -88,17 +92,21 @@ pages_passed w h l f old new tags accepted legal passes follows order stands =
         (follows.looks (Page s g)) (follows.pins (Page s g) ∙ ap f m.pin_is ∙ sym (passes.pins s g))
         (ap (set_in same tags) (follows.looks (Page s g)).tag_is) m
 
+-- from h to l no page that is there is touched
+abbrev pub Untouched : Workload → List Event → List Event → Type 0
+Untouched w h l = (s : Serial) (g : ℕ) → IsThere w l (Page s g) → last_touch l (Page s g) ≡ last_touch h (Page s g)
+
 -- no page is touched either
 pub order_passed : (w : Workload) (h l : List Event) (f : Option Pid → Option Pid) (old new : Cached) (tags : Tags)
-    → Passes w h l f → Follows old new f → KeepsTouches old new → ((b : Buf) → last_touch l b ≡ last_touch h b)
-    → CacheStands w old tags h → Ordered w l new
+    → Passes w h l f → Follows old new f → KeepsTouches old new → Untouched w h l → CacheStands w old tags h
+    → Ordered w l new
 order_passed w h l f old new tags passes follows keeps touch stands =
     order_kept w h l old new keeps
     (λ s g there. (let before = there_before w h l s g (passes.leaves s g) there
     in let held : IsSome (page_of old (Page s g)) = there_held w h old tags s g stands before
     in record {
       there = before;
-      touch = touch (Page s g);
+      touch = touch s g there;
       was = held;
       is = (follows.looks (Page s g)).held_is ∙ held;
     }))
@@ -134,7 +142,7 @@ pages_ret w h by reply old new tags accepted legal each stands =
     let passes = passes_ret w h by reply accepted legal
     in let follows = follows_each old new by each
     in pages_passed w h (h ▹ Ret by reply) (other_than by) old new tags accepted legal.1 passes follows
-    (order_passed w h (h ▹ Ret by reply) (other_than by) old new tags passes follows each.touches (λ b. refl) stands)
+    (order_passed w h (h ▹ Ret by reply) (other_than by) old new tags passes follows each.touches (λ s g there. refl) stands)
     stands
 
 -- ---- a get
@@ -200,10 +208,41 @@ pages_get w h by s g from to sum old mid new tags accepted legal is touches each
         ap (λ (c : Cached). is_some (page_of c (Page t k))) is
         ∙ there_held w h old tags t k stands (there_before w h l t k (passes.leaves t k) there)
 
+-- a get of a page that isn't held touches nothing
+pub pages_hole : (w : Workload) (h : List Event) (by : Pid) (s : Serial) (g from to sum : ℕ) (old new : Cached)
+    (tags : Tags) → IsAccepted w → IsLegal w (h ▹ Get by s g from to sum) → page_of old (Page s g) ≡ None
+    → ChangesEach old new (λ k. unpinned by) → CacheStands w old tags h
+    → CacheStands w new tags (h ▹ Get by s g from to sum)
+pages_hole w h by s g from to sum old new tags accepted legal empty each stands =
+    pages_passed w h l (other_than by) old new tags accepted legal.1 passes follows
+    (order_passed w h l (other_than by) old new tags passes follows each.touches
+    (λ t k there. untouched t k there (same_buf (Page t k) (Page s g)) refl) stands)
+    stands
+  where
+    l : List Event
+    l = h ▹ Get by s g from to sum
+
+    passes : Passes w h l (other_than by)
+    passes = passes_get w h by s g from to sum accepted legal
+
+    follows : Follows old new (other_than by)
+    follows = follows_each old new by each
+
+    untouched : (t : Serial) (k : ℕ) → IsThere w l (Page t k) → (b : Bool) → same_buf (Page t k) (Page s g) ≡ b
+        → last_touch l (Page t k) ≡ last_touch h (Page t k)
+    untouched t k there true here =
+        let held : IsSome (page_of old (Page t k)) =
+        there_held w h old tags t k stands (there_before w h l t k (passes.leaves t k) there)
+        in let out : is_some (page_of old (Page t k)) ≡ false =
+        ap (λ b. is_some (page_of old b)) (same_buf-is (Page t k) (Page s g) here) ∙ ap is_some empty
+        in absurd (both_ways (is_some (page_of old (Page t k))) out held)
+    untouched t k there false other =
+        ap (λ b. if b then length h else last_touch h (Page t k)) other
+
 -- ---- events that change nothing of any page
 pub pages_quiet : (w : Workload) (h : List Event) (e : Event) (c : Cached) (tags : Tags) → IsAccepted w
-    → IsLegal w (h ▹ e) → Passes w h (h ▹ e) (λ o. o) → ((b : Buf) → last_touch (h ▹ e) b ≡ last_touch h b)
-    → CacheStands w c tags h → CacheStands w c tags (h ▹ e)
+    → IsLegal w (h ▹ e) → Passes w h (h ▹ e) (λ o. o) → Untouched w h (h ▹ e) → CacheStands w c tags h
+    → CacheStands w c tags (h ▹ e)
 pages_quiet w h e c tags accepted legal passes touch stands =
     pages_passed w h (h ▹ e) (λ o. o) c c tags accepted legal.1 passes follows
     (order_passed w h (h ▹ e) (λ o. o) c c tags passes follows (λ k was is. refl) touch stands) stands

@@ -26,6 +26,13 @@ Ordered w h c =
 pub apart_pages : (b c : Buf) → same_buf b c ≡ false → b ≢ c
 apart_pages b c other = λ (is : b ≡ c). both_ways (same_buf b c) other (ap (same_buf b) (sym is) ∙ same_buf-self b)
 
+pub same_buf-other : (b c : Buf) → same_buf b c ≡ false → same_buf c b ≡ false
+same_buf-other b c other = by_test (same_buf c b) refl
+  where
+    by_test : (t : Bool) → same_buf c b ≡ t → same_buf c b ≡ false
+    by_test false is = is
+    by_test true is = absurd (apart_pages b c other (sym (same_buf-is c b is)))
+
 -- ---- no page is touched
 -- the page was held before and after, and was last touched when it was
 pub record Stays (w : Workload) (h l : List Event) (old new : Cached) (b : Buf) : Type 0 where

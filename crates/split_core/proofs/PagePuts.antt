@@ -1,8 +1,8 @@
 -- What the cache holds is what the history holds, after a put.
 use Rattle.std.proofs.Common.{◌≡◌, ℕ, ◌+◌, ◌≤◌, ◌==◌, List, [], ◌∷◌, ◌++◌, length, Bool, true, false, ◌&&◌, ◌||◌}
 use Rattle.std.proofs.Common.{Option, Some, None, is_some, IsSome, refl, ap, sym, subst, ◌∙◌, arith, if◌then◌else◌}
-use Rattle.std.proofs.Common.{eqb-true}
-use Rattle.std.specs.Prelude.{replicate}
+use Rattle.std.proofs.Common.{eqb-true, inl, inr, ◌⊎◌}
+use Rattle.std.specs.Prelude.{replicate, is_none}
 use Rattle.std.specs.Option.{option_map}
 use Rattle.std.proofs.lemmas.Bool.{and_parts}
 use Rattle.std.proofs.lemmas.List.{length-replicate, drop_all}
@@ -20,7 +20,8 @@ use Rattle.split_types.specs.Blame.{blame, causes}
 use Rattle.split_types.specs.Pages.{is_dirty}
 use Rattle.split_types.specs.Reads.{other_than}
 use Rattle.split_types.specs.HeldPages.{is_held, is_unsettled, held_pages, unsettled_pages}
-use Rattle.split_types.specs.PageBytes.{page_bytes, filled}
+use Rattle.split_types.specs.FileMaps.{mapped_block}
+use Rattle.split_types.specs.PageBytes.{page_bytes, filled, filled_page}
 use Rattle.split_types.specs.PagesInCache.{CountsAre, IsThere}
 use Rattle.split_types.specs.Accepted.{IsAccepted}
 use Rattle.split_types.specs.Legal.{IsLegal}
@@ -37,13 +38,14 @@ use Rattle.cause_set.specs.Tags.{Tags, same, set_in}
 use Rattle.page_cache.specs.Bytes.{zeros}
 use Rattle.page_cache.specs.Held.{Held, state_in}
 use Rattle.page_cache.specs.Cached as cached
-use Rattle.page_cache.specs.Cached.{Cached, page_of, held_in, unsettled_in, causes_of, IsDataPage}
+use Rattle.page_cache.specs.Cached.{Cached, page_of, held_in, unsettled_in, IsDataPage}
 use Rattle.page_cache.specs.Changes.{ChangesEach, Writes, bytes_in, one_if, page_as, unpinned}
 use Rattle.split_core.specs.Fits.{PutFits}
 use Rattle.split_core.specs.Pages.{CacheStands}
 use Rattle.split_core.proofs.PageFacts.{Mirrors, mirrors, mirrors_at, Leaves, looks_same, looks_then, looks_unpinned}
 use Rattle.split_core.proofs.PageFacts.{pin_unpinned, there_before, mirrors_left}
-use Rattle.split_core.proofs.PageOrder.{apart_pages, order_kept, order_touched}
+use Rattle.split_core.proofs.PageOrder.{apart_pages, same_buf-other, order_kept, order_touched}
+use Rattle.split_core.proofs.PageHoles.{hole_zero}
 use Rattle.split_core.proofs.PageNotes.{stands_by, there_held}
 
 -- ---- bytes
@@ -61,11 +63,25 @@ new_bytes : (x : Option Held) → is_some x ≡ false → length (bytes_in x) �
 new_bytes None out = long_zeros
 new_bytes (Some p) out = absurd (cc)
 
-whole_put : (held : Bool) (from to : ℕ) → held ≡ false → (held || (from == 0 && to == 4096)) ≡ true
-    → (from ≡ 0) × (to ≡ 4096)
-whole_put true from to out is = absurd (cc)
-whole_put false from to out is =
+-- a page that isn't held has zeros in the cache
+zero_bytes : (x : Option Held) → is_some x ≡ false → bytes_in x ≡ filled_page 0
+unfolding zeros filled_page
+zero_bytes None out = refl
+zero_bytes (Some p) out = absurd (cc)
+
+-- a page that isn't held is put whole, or has no block
+new_put : (held whole none : Bool) → held ≡ false → (held || whole || none) ≡ true → (whole ≡ true) ⊎ (none ≡ true)
+new_put true whole none out is = absurd (cc)
+new_put false true none out is = inl refl
+new_put false false none out is = inr is
+
+whole_put : (from to : ℕ) → (from == 0 && to == 4096) ≡ true → (from ≡ 0) × (to ≡ 4096)
+whole_put from to is =
     let parts = and_parts (from == 0) (to == 4096) is in (eqb-true from 0 parts.0, eqb-true to 4096 parts.1)
+
+none_mapped : (o : Option ℕ) → is_none o ≡ true → o ≡ None
+none_mapped None is = refl
+none_mapped (Some x) is = absurd (cc)
 
 put_bytes : (w : Workload) (h : List Event) (tags : Tags) (x : Option Held) (by : Pid) (s : Serial) (g from to fill : ℕ)
     → IsAccepted w → IsLegal w h → PutFits w h by s g from to fill → Mirrors w h tags x s g
@@ -75,13 +91,19 @@ put_bytes w h tags x by s g from to fill accepted legal fits m = by_held (is_hel
     by_held : (b : Bool) → is_held w h (Page s g) ≡ b
         → filled (bytes_in x) from to fill ≡ filled (page_bytes w h s g) from to fill
     by_held true is = ap (λ l. filled l from to fill) (m.bytes_is record { held = is; loaded = fits.loaded })
-    by_held false is =
-        let all = whole_put (is_held w h (Page s g)) from to is fits.whole
-        in ap (λ n. filled (bytes_in x) n to fill) all.0 ∙ ap (λ n. filled (bytes_in x) 0 n fill) all.1
-        ∙ filled_whole (bytes_in x) (page_bytes w h s g) fill (new_bytes x (m.held_is ∙ is))
-        (whole_page w h s g accepted legal)
-        ∙ ap (λ n. filled (page_bytes w h s g) 0 n fill) (sym all.1)
-        ∙ ap (λ n. filled (page_bytes w h s g) n to fill) (sym all.0)
+    by_held false is = elim (new_put (is_held w h (Page s g)) (from == 0 && to == 4096)
+        (is_none (mapped_block w h s.0 g)) is fits.whole) [
+          | inl whole ↦
+              (let all = whole_put from to whole
+              in ap (λ n. filled (bytes_in x) n to fill) all.0 ∙ ap (λ n. filled (bytes_in x) 0 n fill) all.1
+              ∙ filled_whole (bytes_in x) (page_bytes w h s g) fill (new_bytes x (m.held_is ∙ is))
+              (whole_page w h s g accepted legal)
+              ∙ ap (λ n. filled (page_bytes w h s g) 0 n fill) (sym all.1)
+              ∙ ap (λ n. filled (page_bytes w h s g) n to fill) (sym all.0))
+          | inr none ↦
+              ap (λ l. filled l from to fill) (zero_bytes x (m.held_is ∙ is)
+              ∙ sym (hole_zero w h s g accepted legal fits.page.live (none_mapped (mapped_block w h s.0 g) none) is))
+        ]
 
 -- ---- the page that is put
 -- what a page becomes that is written, under this tag
@@ -137,13 +159,6 @@ put_page w h by s g from to fill tag before after x y z accepted legal least mos
     }
 
 -- ---- the other pages
-same_buf-other : (b c : Buf) → same_buf b c ≡ false → same_buf c b ≡ false
-same_buf-other b c other = by_test (same_buf c b) refl
-  where
-    by_test : (t : Bool) → same_buf c b ≡ t → same_buf c b ≡ false
-    by_test false is = is
-    by_test true is = absurd (apart_pages b c other (sym (same_buf-is c b is)))
-
 leaves_put : (w : Workload) (h : List Event) (by : Pid) (s t : Serial) (g from to fill k : ℕ) → IsAccepted w
     → IsLegal w (h ▹ Put by s g from to fill) → same_buf (Page t k) (Page s g) ≡ false
     → Leaves w h (h ▹ Put by s g from to fill) t k
@@ -254,6 +269,6 @@ pages_put w h by s g from to fill old mid new before after accepted legal least 
 
     alone : (b : Buf) → is_some (page_of mid b) ≡ true → (t : Bool) → same_buf b (Page s g) ≡ t → IsDataPage b
     alone b there true is =
-        subst IsDataPage (sym (same_buf-is b (Page s g) is)) (omega (arith, fits.preset.page, fits.preset.few))
+        subst IsDataPage (sym (same_buf-is b (Page s g) is)) fits.page.page
     alone b there false other =
         stands.pages_alone b (sym (ap is_some (writes.page.others b (apart_pages b (Page s g) other))) ∙ there)

@@ -1,13 +1,12 @@
 -- What the cache holds is what the history holds, after a request that writes pages is done.
-use Rattle.std.proofs.Common.{◌≡◌, ℕ, List, [], ◌∷◌, length, slice_get, Bool, true, false, not, ◌&&◌, cond, Option}
+use Rattle.std.proofs.Common.{◌≡◌, ℕ, ◌+◌, ◌<◌, List, length, slice_get, Bool, true, false, not, ◌&&◌, Option}
 use Rattle.std.proofs.Common.{Some, None, is_some, IsSome, refl, ap, sym, subst, ◌∙◌, arith, if◌then◌else◌}
 use Rattle.std.specs.Prelude.{count_by}
 use Rattle.std.specs.Option.{option_map}
-use Rattle.std.proofs.lemmas.List.Sums.{sum_by-cons}
 use Rattle.split_types.specs.declared.ids.ReqId.{ReqId}
 use Rattle.split_types.specs.declared.ids.Serial.{Serial}
 use Rattle.split_types.specs.declared.buf.Buf.{Buf}
-use Rattle.split_types.specs.declared.buf.Buf.TheVariants.{Page, Bitmap, Dir, Inode}
+use Rattle.split_types.specs.declared.buf.Buf.TheVariants.{Page}
 use Rattle.split_types.specs.declared.request.ReqKind.TheVariants.{Pages}
 use Rattle.split_types.specs.declared.request.Request.{Request}
 use Rattle.split_types.specs.declared.workload.Workload.{Workload}
@@ -16,7 +15,8 @@ use Rattle.split_types.specs.declared.event.Event.TheVariants.{Done}
 use Rattle.split_types.specs.History.{◌▹◌}
 use Rattle.split_types.specs.Hooks.{covers, is_among}
 use Rattle.split_types.specs.Parents.{pages_of}
-use Rattle.split_types.specs.Pages.{is_dirty, is_busy}
+use Rattle.split_types.specs.Files.{is_live}
+use Rattle.split_types.specs.Pages.{is_live_page, is_dirty, is_busy}
 use Rattle.split_types.specs.Requests.{requests, is_write}
 use Rattle.split_types.specs.Reads.{reads, is_loading}
 use Rattle.split_types.specs.HeldPages.{is_held}
@@ -38,6 +38,7 @@ use Rattle.split_core.specs.Pages.{CacheStands, Releases}
 use Rattle.split_core.proofs.PageFacts.{Mirrors, mirrors}
 use Rattle.split_core.proofs.PageOrder.{order_kept}
 use Rattle.split_core.proofs.PageNotes.{stands_by, there_held}
+use Rattle.split_core.proofs.PageRuns.{count_pages}
 
 -- ---- a request that writes pages
 pub reads_none : (r : Request) (s : Serial) (g : ℕ) (b : Buf) → r.kind ≡ Pages s g → reads r b ≡ false
@@ -59,6 +60,8 @@ pub record RunIs (w : Workload) (h : List Event) (k : ℕ) (id : ReqId) (ok : Bo
   pub legal : IsLegal w (h ▹ Done k id ok)
   pub at : slice_get (requests h) id.0 ≡ Some r
   pub kind : r.kind ≡ Pages s g
+  -- its pages are busy while their file is there
+  pub busy : (i : ℕ) → i < r.n → is_busy w h (Page s (g + i)) ≡ is_live w h s.0
 
 after_run : (w : Workload) (h : List Event) (k : ℕ) (id : ReqId) (ok : Bool) (r : Request) (s : Serial) (g : ℕ)
     (b : Buf) → RunIs w h k id ok r s g
@@ -114,30 +117,6 @@ settled_page w h k id ok r s t g m tags x y is done own =
       };
     }
 
--- ---- how many are clean
-count_same : {X : Type 0} (p q : X → Bool) (xs : List X) → ((x : X) → p x ≡ q x) → count_by p xs ≡ count_by q xs
-count_same p q [] is = refl
-count_same p q (x ∷ xs) is =
-    let one : ◌≡◌ {A = ℕ} (cond (p x) 1 0) (cond (q x) 1 0) = ap (λ b. cond b 1 0) (is x)
-    in omega (
-      arith,
-      sum_by-cons (λ y. cond (p y) 1 0) x xs,
-      sum_by-cons (λ y. cond (q y) 1 0) x xs,
-      count_same p q xs is,
-      one,
-    )
-
-none_tagged : (x : Option Held) → (is_some x ≡ true → ⊥) → is_some (cached.tag_in x) ≡ false
-none_tagged None out = refl
-none_tagged (Some p) out = absurd (out refl)
-
-all_dirty : (w : Workload) (h : List Event) (c : Cached) (tags : Tags) → CacheStands w c tags h → (b : Buf)
-    → is_some (cached.tag_in (page_of c b)) ≡ is_dirty w h b
-all_dirty w h c tags stands (Page s g) = stands.dirty_are s g
-all_dirty w h c tags stands Bitmap = none_tagged (page_of c Bitmap) (stands.pages_alone Bitmap)
-all_dirty w h c tags stands (Dir k) = none_tagged (page_of c (Dir k)) (stands.pages_alone (Dir k))
-all_dirty w h c tags stands (Inode k) = none_tagged (page_of c (Inode k)) (stands.pages_alone (Inode k))
-
 -- ---- a request that writes pages is done
 pub pages_settled : (w : Workload) (h : List Event) (k : ℕ) (id : ReqId) (ok : Bool) (r : Request) (s : Serial) (g : ℕ)
     (old new : Cached) (tags : Tags) → RunIs w h k id ok r s g → Releases old new s g r.n → CacheStands w old tags h
@@ -172,8 +151,12 @@ pages_settled w h k id ok r s g old new tags is releases stands =
     counts : CountsDone w h l r
     counts = counts_change w h (Done k id ok) is.accepted is.legal r is.at
 
-    clean : count_by (λ b. not (is_some (cached.tag_in (page_of old b)))) (pages_of s g r.n)
-        ≡ count_by (λ b. not (is_dirty w h b)) (pages_written r)
-    clean = count_same (λ b. not (is_some (cached.tag_in (page_of old b)))) (λ b. not (is_dirty w h b))
-        (pages_of s g r.n) (λ b. ap not (all_dirty w h old tags stands b))
-        ∙ ap (count_by (λ b. not (is_dirty w h b))) (sym (written_run r s g is.kind))
+    clean : count_by (λ b. cached.is_busy (page_of old b) && not (is_some (cached.tag_in (page_of old b))))
+        (pages_of s g r.n)
+        ≡ count_by (λ b. is_live_page w h b && not (is_dirty w h b)) (pages_written r)
+    clean = count_pages (λ b. cached.is_busy (page_of old b) && not (is_some (cached.tag_in (page_of old b))))
+        (λ b. is_live_page w h b && not (is_dirty w h b)) s g r.n
+        (λ i low. ap (λ t. t && not (is_some (cached.tag_in (page_of old (Page s (g + i))))))
+        (stands.busy_are s (g + i) ∙ is.busy i low)
+        ∙ ap (λ t. is_live w h s.0 && not t) (stands.dirty_are s (g + i)))
+        ∙ ap (count_by (λ b. is_live_page w h b && not (is_dirty w h b))) (sym (written_run r s g is.kind))

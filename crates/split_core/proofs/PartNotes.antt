@@ -1,9 +1,7 @@
 -- What the parts hand to each other, and what stands where tags move that aren't theirs.
-use Rattle.std.proofs.Common.{◌≡◌, ℕ, ◌<◌, ◌≤◌, List, length, option_map, Option, Some, None, refl, sym}
-use Rattle.std.proofs.Common.{◌∙◌, subst, arith}
-use Rattle.std.specs.Str.{bytes_eq}
+use Rattle.std.proofs.Common.{◌≡◌, ℕ, ◌≤◌, List, Option, Some, None, sym, ap, ◌∙◌, subst, arith}
+use Rattle.std.specs.Prelude.{IsSome, IfSome}
 use Rattle.std.proofs.Math.ListN.{get_or-map}
-use Rattle.std.proofs.lemmas.List.Quantifiers.{position-Some}
 use Rattle.cause_set.specs.Tags.{Tags, Moved, no_use, use_in, held, same}
 use Rattle.cause_set.proofs.TagLaws.{set_in-keeps, use_in-held}
 use Rattle.page_cache.specs.Cached.{Cached, page_of, place_of, tag_in, tags_in}
@@ -11,17 +9,13 @@ use Rattle.split_types.specs.declared.ids.Serial.{Serial}
 use Rattle.split_types.specs.declared.buf.Buf.{Buf}
 use Rattle.split_types.specs.declared.buf.Buf.TheVariants.{Page}
 use Rattle.split_types.specs.declared.call.Call.{Call}
-use Rattle.split_types.specs.declared.call.Call.TheVariants.{Creat}
-use Rattle.split_types.specs.declared.workload.Preset.{Preset}
 use Rattle.split_types.specs.declared.workload.Workload.{Workload}
 use Rattle.split_types.specs.declared.event.Event.{Event}
-use Rattle.split_types.specs.Workloads.{file_named}
-use Rattle.split_types.specs.Calls.{name_of}
-use Rattle.split_types.specs.Files.{live_named, file_for}
+use Rattle.split_types.specs.LiveFiles.{LiveFile}
+use Rattle.split_types.specs.Files.{file_for}
 use Rattle.split_types.specs.FileSizes.{size_of_some}
 use Rattle.split_core.specs.declared.note.pages.Pages.{Pages}
-use Rattle.split_core.specs.Fits.{FilesFit}
-use Rattle.split_core.specs.Givens.{IsWithin, preset_size}
+use Rattle.split_core.specs.Filing.{IsFor}
 use Rattle.split_core.specs.Pages.{PagesStand, TagsStand}
 
 -- ---- tags
@@ -55,40 +49,15 @@ pages_stay w p old new h moved tags stands = record {
 pub tags_stay : (p : Pages) (old new : Tags) → Moved old new no_use no_use → TagsStand p old → TagsStand p new
 tags_stay p old new moved tags n = omega (arith, moved.uses n, tags n)
 
--- ---- the file of a call
--- a file that is found by its name is a preset one
-named_within : (w : Workload) (name : List ℕ) (s : Serial) (o : Option ℕ) → file_named w.files name ≡ o
-    → option_map (λ n. record { 0 = n }) o ≡ Some s → s.0 < length w.files
-named_within w name s None at is = absurd (cc)
-named_within w name s (Some n) at is =
-    let d : Preset = record { name = name; pages = 0; fill = 0 }
-    in let below : n < length w.files =
-    (position-Some (λ (f : Preset). bytes_eq f.name name) w.files n d at).0
-    in subst (λ k. k < length w.files) (number n s is) below
-  where
-    number : (n : ℕ) (s : Serial) → (let t : Serial = record { 0 = n } in Some t) ≡ Some s → n ≡ s.0
-    number n s is = cc
+-- ---- what is handed on
+-- the file of a slot that is found for a call
+pub for_file : (w : Workload) (h : List Event) (c : Call) (o : Option LiveFile) (r : Serial) → IsSome o
+    → IfSome o (IsFor w h c) → IfSome o (λ f. r ≡ f.serial) → Some r ≡ file_for w h (Some c)
+for_file w h c None r some is at = absurd (cc (some))
+for_file w h c (Some f) r some is at = ap Some at ∙ sym is.file
 
-live_within : (w : Workload) (h : List Event) (name : List ℕ) (s : Serial) → FilesFit w h
-    → live_named w h name ≡ Some s → s.0 < length w.files
-live_within w h name s files is = named_within w name s (file_named w.files name) refl (sym (files.names name) ∙ is)
-
-call_within : (w : Workload) (h : List Event) (c : Call) (s : Serial) → FilesFit w h → file_for w h (Some c) ≡ Some s
-    → s.0 < length w.files
-call_within w h (Creat name) s files is = absurd (cc)
-call_within w h c s files is = live_within w h (name_of c) s files is
-
-within_some : (w : Workload) (o : Option Serial) → ((s : Serial) → o ≡ Some s → s.0 < length w.files) → IsWithin w o
-within_some w None below = tt
-within_some w (Some s) below = below s refl
-
--- the file that a call works on is a preset one
-pub file_within : (w : Workload) (h : List Event) (call : Option Call) → FilesFit w h → IsWithin w (file_for w h call)
-file_within w h None files = tt
-file_within w h (Some c) files = within_some w (file_for w h (Some c)) (λ s is. call_within w h c s files is)
-
--- and has the size that it has at the start
-pub size_given : (w : Workload) (h : List Event) (o : Option Serial) → FilesFit w h → IsWithin w o
-    → preset_size w o ≡ size_of_some w h o
-size_given w h None files within = refl
-size_given w h (Some s) files within = sym (files.sizes s.0 within)
+-- and its size
+pub for_size : (w : Workload) (h : List Event) (c : Call) (o : Option LiveFile) (r : ℕ) → IsSome o
+    → IfSome o (IsFor w h c) → IfSome o (λ f. r ≡ f.size) → r ≡ size_of_some w h (file_for w h (Some c))
+for_size w h c None r some is at = absurd (cc (some))
+for_size w h c (Some f) r some is at = at ∙ sym is.size

@@ -3,7 +3,7 @@ use Rattle.std.specs.Prelude.{ℕ, ◌==◌, List, [], slice_get, Bool, false, n
 use Rattle.split_types.specs.declared.ids.Pid.{Pid}
 use Rattle.split_types.specs.declared.actor.Actor.TheVariants.{Client}
 use Rattle.split_types.specs.declared.event.Event.{Event}
-use Rattle.split_types.specs.declared.event.Event.TheVariants.{Add, Done}
+use Rattle.split_types.specs.declared.event.Event.TheVariants.{Ret, Add, Done}
 use Rattle.split_types.specs.History.{◌▹◌}
 use Rattle.split_types.specs.Requests.{requests}
 use Rattle.split_types.specs.Reads.{reads_for, is_process}
@@ -17,9 +17,10 @@ abbrev pub done_for : List Event → Event → Option Pid
 done_for h (Done k id ok) = reader_at h id.0
 done_for h e = None
 
--- process p added a read, and none of its reads was done since
+-- the call of process p under way added a read, and none of the reads that p added was done since
 abbrev pub awaits : List Event → ℕ → Bool
 awaits [] p = false
+awaits (h ▹ Ret by reply) p = not (by.0 == p) && awaits h p
 awaits (h ▹ Add (Client by) r) p = by.0 == p || awaits h p
 awaits (h ▹ Done k id ok) p = not (is_process p (reader_at h id.0)) && awaits h p
 awaits (h ▹ e) p = awaits h p

@@ -1,12 +1,8 @@
--- The bytes that a queued write carries, as they are kept.
-use Rattle.std.specs.Prelude.{ℕ, List, replicate}
-use Rattle.std.specs.List.{flat_map}
+-- The bytes that a write carries, as they are kept.
+use Rattle.std.specs.Prelude.{ℕ, List}
+use Rattle.sim_disk.specs.Bytes.{spread}
 use Rattle.split_core.specs.declared.note.cargo.Load.{Load}
 use Rattle.split_core.specs.declared.note.cargo.Load.TheVariants.{Filled, Bytes}
-
--- the bytes of pages, each filled with one byte
-abbrev pub spread : List ℕ → List ℕ
-spread fills = flat_map (replicate 4096) fills
 
 -- what they are
 abbrev pub bytes_of : Load → List ℕ

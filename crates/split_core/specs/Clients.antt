@@ -1,13 +1,15 @@
 -- What is kept of the processes has to do with a history.
-use Rattle.std.specs.Prelude.{◌≡◌, ℕ, ◌+◌, ◌<◌, ◌≤◌, List, [], length, slice_get, false, IsTrue, IsFalse}
+use Rattle.std.specs.Prelude.{◌≡◌, ℕ, ◌+◌, ◌<◌, ◌≤◌, List, length, slice_get, false, IsTrue, IsFalse}
 use Rattle.std.specs.Prelude.{Option, Some, None}
-use Rattle.split_types.specs.declared.ids.Serial.{Serial}
+use Rattle.split_types.specs.declared.request.Run.{Run}
+use Rattle.split_types.specs.declared.request.Service.{Service}
+use Rattle.split_types.specs.declared.request.Service.TheVariants.{Mapped}
 use Rattle.split_types.specs.declared.workload.Workload.{Workload}
 use Rattle.split_types.specs.declared.event.Event.{Event}
-use Rattle.split_types.specs.Calls.{returned, is_entered, is_admitted, moved, call_of}
-use Rattle.split_types.specs.FileSizes.{working_file, size_at_admit}
-use Rattle.split_types.specs.FileMaps.{mapped_block}
-use Rattle.split_types.specs.Pieces.{Piece, got}
+use Rattle.split_types.specs.Calls.{returned, is_entered, is_admitted, has_acted, moved, call_of}
+use Rattle.split_types.specs.Files.{bound_file}
+use Rattle.split_types.specs.FileSizes.{size_at_admit}
+use Rattle.split_types.specs.Pieces.{got}
 use Rattle.split_types.specs.Legal.{is_finished}
 use Rattle.split_core.specs.Awaits.{awaits}
 use Rattle.split_core.specs.declared.note.clients.Client.{Client}
@@ -20,7 +22,8 @@ client_of w h p = record {
   returned = returned h p;
   entered = is_entered h p;
   admitted = is_admitted h p;
-  file = working_file w h p;
+  acted = has_acted h p;
+  file = bound_file w h p;
   size = size_at_admit w h p;
   moved = moved h p;
   got = got h p;
@@ -34,21 +37,20 @@ pub record ClientsStand (w : Workload) (c : Clients) (h : List Event) : Type 0 w
   pub finished_are : (i : ℕ) → i < c.finished → IsTrue (is_finished w h (i + 1))
   pub next_is_left : c.finished < length w.procs → IsFalse (is_finished w h (c.finished + 1))
 
+-- the run of a service whose pages are mapped, and whose request isn't added
+abbrev pub mapped_run : Service → Option Run
+mapped_run (Mapped run) = Some run
+mapped_run _ = None
+
 -- how far process p has come, as the decision on its next event sees it; no read of its was done badly
 pub record IsProgress (w : Workload) (h : List Event) (p : ℕ) (x : Progress) : Type 0 where
   pub call : x.call ≡ call_of w h p
   pub number : x.number ≡ returned h p
   pub entered : x.entered ≡ is_entered h p
   pub admitted : x.admitted ≡ is_admitted h p
-  pub bound : x.bound ≡ working_file w h p
+  pub acted : x.acted ≡ has_acted h p
+  pub bound : x.bound ≡ bound_file w h p
   pub size : x.size_at_admit ≡ size_at_admit w h p
   pub moved : x.moved ≡ moved h p
   pub sum : x.sum ≡ got h p
   pub well : x.bad_read ≡ false
-
--- the block that the page of a piece of a file has at the start; none where the page has none, or the file or the piece
--- isn't there
-abbrev pub block_on : Workload → Option Serial → Option Piece → Option ℕ
-block_on w None piece = None
-block_on w (Some s) None = None
-block_on w (Some s) (Some piece) = mapped_block w [] s.0 piece.page

@@ -1,11 +1,11 @@
 -- What is known of an event that comes next in a legal history, by its kind: its numbers are those of the workload, and
 -- what it adds up fits.
-use Rattle.std.specs.Prelude.{◌≡◌, ℕ, ◌+◌, ◌*◌, ◌^◌, ◌<◌, ◌≤◌, ◌==◌, List, [], ◌∷◌, ◌++◌, length, drop, remove}
-use Rattle.std.specs.Prelude.{slice_get, Some, Bool, true, not, ◌&&◌, ◌||◌, IsTrue, IsFalse}
+use Rattle.std.specs.Prelude.{◌≡◌, ℕ, ◌+◌, ◌^◌, ◌<◌, ◌≤◌, ◌==◌, List, [], ◌∷◌, ◌++◌, length, drop, remove}
+use Rattle.std.specs.Prelude.{slice_get, Some, None, is_none, Bool, true, false, not, ◌&&◌, ◌||◌, IsTrue, IsFalse}
 use Rattle.std.specs.List.{list_any}
-use Rattle.std.specs.Option.{option_map}
 use Rattle.split_types.specs.declared.ids.Pid.{Pid}
 use Rattle.split_types.specs.declared.ids.Serial.{Serial}
+use Rattle.split_types.specs.declared.ids.Slot.{Slot}
 use Rattle.split_types.specs.declared.ids.ReqId.{ReqId}
 use Rattle.split_types.specs.declared.buf.Buf.{Buf}
 use Rattle.split_types.specs.declared.buf.Buf.TheVariants.{Page}
@@ -14,10 +14,13 @@ use Rattle.split_types.specs.declared.actor.Actor.TheVariants.{Client, Wb}
 use Rattle.split_types.specs.declared.request.ReqKind.{ReqKind}
 use Rattle.split_types.specs.declared.request.ReqKind.TheVariants.{Read, Pages}
 use Rattle.split_types.specs.declared.request.Request.{Request}
+use Rattle.split_types.specs.declared.request.Run.{Run}
+use Rattle.split_types.specs.declared.request.Service.TheVariants.{Serving}
+use Rattle.split_types.specs.declared.call.Call.TheVariants.{Creat}
 use Rattle.split_types.specs.declared.facts.ReqState.TheVariants.{Queued}
 use Rattle.split_types.specs.declared.workload.Workload.{Workload}
 use Rattle.split_types.specs.declared.event.Event.{Event}
-use Rattle.split_types.specs.declared.event.Event.TheVariants.{Enter, Admit, Put, Get, Ret, Serve, Add, Send, Done, Evict}
+use Rattle.split_types.specs.declared.event.Event.TheVariants.{Enter, Admit, Make, Put, Get, Drop, Ret, Serve, Map, Skip, Add, Send, Done, Evict}
 use Rattle.split_types.specs.History.{◌▹◌, adds}
 use Rattle.split_types.specs.Hooks.{maker, covers}
 use Rattle.split_types.specs.Requests.{requests, queued, in_flight, unfinished, state_of}
@@ -26,17 +29,21 @@ use Rattle.split_types.specs.Blame.{tag}
 use Rattle.split_types.specs.Sets.{has}
 use Rattle.split_types.specs.Share.{share_of}
 use Rattle.split_types.specs.Bills.{bill, billed}
-use Rattle.split_types.specs.Calls.{returned, moved}
+use Rattle.split_types.specs.Calls.{returned, moved, call_of}
 use Rattle.split_types.specs.Pieces.{got}
 use Rattle.split_types.specs.Files.{is_live, live_named}
-use Rattle.split_types.specs.FileSizes.{size_of}
 use Rattle.split_types.specs.Pages.{is_ready}
 use Rattle.split_types.specs.Reads.{is_loading}
 use Rattle.split_types.specs.HeldPages.{is_held, is_full}
 use Rattle.split_types.specs.Victims.{victim}
-use Rattle.split_types.specs.Workloads.{calls_of, file_named, pages_in, page_block}
+use Rattle.split_types.specs.Workloads.{calls_of, first_block}
+use Rattle.split_types.specs.FileMaps.{mapped_block, is_without_space, is_reserved, reserved_pages}
+use Rattle.split_types.specs.FileSlots.{live_files, next_serial, slot_of, file_in_slot}
+use Rattle.split_types.specs.LiveFiles.{free_slot}
+use Rattle.split_types.specs.FilesInOrder.{all_files}
+use Rattle.split_types.specs.ServedRuns.{free_run}
+use Rattle.split_types.specs.Writeback.{service}
 use Rattle.split_types.specs.Legal.{IsLegal}
-use Rattle.split_types.specs.Proving.Runs.{IsPresetRun}
 
 -- a process that acts is one of the workload's, and has a call left
 pub record ClientFits (w : Workload) (h : List Event) (p : Pid) : Type 0 where
@@ -45,50 +52,96 @@ pub record ClientFits (w : Workload) (h : List Event) (p : Pid) : Type 0 where
   pub left : returned h p.0 < length (calls_of w p.0)
   pub few : length (calls_of w p.0) < 2 ^ 31
 
--- the files that are there are the preset ones, of the sizes that they have at the start
-pub record FilesFit (w : Workload) (h : List Event) : Type 0 where
-  pub names : (name : List ℕ) → live_named w h name ≡ option_map (λ s. record { 0 = s }) (file_named w.files name)
-  pub sizes : (s : ℕ) → s < length w.files → size_of w h s ≡ 4096 * pages_in w s
-  pub live : (s : ℕ) → s < length w.files → IsTrue (is_live w h s)
+-- a page that a file which is there may have
+pub record IsFilePage (w : Workload) (h : List Event) (s : Serial) (g : ℕ) : Type 0 where
+  pub live : IsTrue (is_live w h s.0)
+  pub numbered : s.0 < all_files w h
+  pub page : g < 1008
 
--- a page of a preset file
-pub record IsPresetPage (w : Workload) (s : Serial) (g : ℕ) : Type 0 where
-  pub file : s.0 < length w.files
-  pub page : g < pages_in w s.0
-  pub few : pages_in w s.0 ≤ 1008
+-- a call that makes a file: no file has its name, and the file gets the least free slot and the next number
+pub record MakeFits (w : Workload) (h : List Event) (by : Pid) (slot : Slot) (serial : Serial) : Type 0 where
+  pub name : List ℕ
+  pub call : call_of w h by.0 ≡ Some (Creat name)
+  pub fresh : live_named w h name ≡ None
+  pub slot_is : free_slot (live_files w h) ≡ Some slot.0
+  pub serial_is : serial ≡ next_serial w h
+  pub few : serial.0 < 4294967295
 
--- some bytes of a page that isn't loading; it is held, or there is a place for it and all of it is put
+-- a file that is there, with its slot
+pub record DropFits (w : Workload) (h : List Event) (slot : Slot) (serial : Serial) : Type 0 where
+  pub live : IsTrue (is_live w h serial.0)
+  pub slot_is : slot ≡ slot_of w h serial
+  pub in_slot : file_in_slot w h slot.0 ≡ Some serial
+
+-- some bytes of a page that isn't loading; it is held, or there is a place for it and all of it is put, or all of it
+-- that isn't zero; it has a block, or one that is promised to it, or one is left
 pub record PutFits (w : Workload) (h : List Event) (by : Pid) (s : Serial) (g from to fill : ℕ) : Type 0 where
-  pub preset : IsPresetPage w s g
+  pub page : IsFilePage w h s g
   pub some : from < to
   pub most : to ≤ 4096
   pub byte : fill ≤ 255
   pub short : moved h by.0 < 2 ^ 31
   pub loaded : IsFalse (is_loading w h (Page s g))
   pub room : IsTrue (is_held w h (Page s g) || not (is_full w h))
-  pub whole : IsTrue (is_held w h (Page s g) || (from == 0 && to == 4096))
+  pub whole : IsTrue (is_held w h (Page s g) || (from == 0 && to == 4096) || is_none (mapped_block w h s.0 g))
+  pub space : IsFalse (is_without_space w h (Page s g))
 
--- some bytes of a page that is held and isn't loading
+-- some bytes of a page that isn't loading; it is held, or it has no block
 pub record GetFits (w : Workload) (h : List Event) (by : Pid) (s : Serial) (g from to sum : ℕ) : Type 0 where
-  pub preset : IsPresetPage w s g
+  pub page : IsFilePage w h s g
   pub some : from < to
   pub most : to ≤ 4096
   pub short : moved h by.0 < 2 ^ 31
   pub small : got h by.0 + sum < 2 ^ 63
   pub loaded : IsFalse (is_loading w h (Page s g))
-  pub held : IsTrue (is_held w h (Page s g))
+  pub held : IsTrue (is_held w h (Page s g) || is_none (mapped_block w h s.0 g))
+
+-- some pages of a file, with the blocks from this one on
+pub record HaveBlocks (w : Workload) (h : List Event) (s : Serial) (g n first : ℕ) : Type 0 where
+  pub some : 1 ≤ n
+  pub most : n ≤ 16
+  pub within : g + n ≤ 1008
+  pub from : first_block w ≤ first
+  pub to : first + n ≤ w.device
+  pub place : (k : ℕ) → k < n → mapped_block w h s.0 (g + k) ≡ Some (first + k)
+
+-- pages that get free blocks: none of them has a block, and these are the first free blocks for the run
+pub record MapsFree (w : Workload) (h : List Event) (run : Run) (n block : ℕ) : Type 0 where
+  pub some : 1 ≤ n
+  pub most : n ≤ run.n
+  pub free : free_run w h run.n ≡ Some (record { first = block; n = n })
+  pub promised : (k : ℕ) → k < run.n → IsTrue (is_reserved w h (Page run.serial (run.page + k)))
+  pub enough : run.n ≤ length (reserved_pages w h)
+  pub from : first_block w ≤ block
+  pub to : block + n ≤ w.device
+
+-- what is asked of a map by whether it gives blocks
+abbrev pub MapsKind : Workload → List Event → Run → ℕ → ℕ → Bool → Type 0
+MapsKind w h run n block true = MapsFree w h run n block
+MapsKind w h run n block false = HaveBlocks w h run.serial run.page n block
+
+-- a map of the first n pages of the run that is served, whose file is there
+pub record MapFits (w : Workload) (h : List Event) (slot : Slot) (s : Serial) (g n block : ℕ) (new : Bool) (size : ℕ) : Type 0 where
+  pub run : Run
+  pub served : service h ≡ Serving run
+  pub serial : s ≡ run.serial
+  pub page : g ≡ run.page
+  pub within : g + run.n ≤ 1008
+  pub file : DropFits w h slot s
+  pub most : size ≤ 4128768
+  pub kind : MapsKind w h run n block new
 
 -- a request for a run of pages that are ready
 pub record RunFits (w : Workload) (h : List Event) (s : Serial) (g n first : ℕ) : Type 0 where
-  pub run : IsPresetRun w s g n
-  pub place : first ≡ page_block w s.0 g
+  pub live : IsTrue (is_live w h s.0)
+  pub blocks : HaveBlocks w h s g n first
   pub ready : (k : ℕ) → k < n → IsTrue (is_ready w h (Page s (g + k)))
 
 -- a request for a page that isn't held, while the cache has a place for it
 pub record LoadFits (w : Workload) (h : List Event) (s : Serial) (g n first : ℕ) : Type 0 where
-  pub preset : IsPresetPage w s g
+  pub page : IsFilePage w h s g
   pub one : n ≡ 1
-  pub place : first ≡ page_block w s.0 g
+  pub blocks : HaveBlocks w h s g n first
   pub absent : IsFalse (is_held w h (Page s g))
   pub free : IsFalse (is_full w h)
 
@@ -125,11 +178,12 @@ abbrev pub Frees : List Event → Event → Request → Type 0
 Frees h e r = (b : Buf) → list_any (λ q. covers q b) (unfinished (h ▹ e))
     ≡ (not (covers r b) && list_any (λ q. covers q b) (unfinished h))
 
--- what is asked of a request that is done, by its kind: a run of pages, or a page that is loading
+-- what is asked of a request that is done, by its kind: a run of pages with their blocks, whose file may be gone, or one
+-- such page, which is loading where its file is there
 abbrev pub DoneKind : Workload → List Event → ReqKind → ℕ → ℕ → Type 0
-DoneKind w h (Pages s g) n first = IsPresetRun w s g n × (first ≡ page_block w s.0 g)
+DoneKind w h (Pages s g) n first = HaveBlocks w h s g n first
 DoneKind w h (Read p s g) n first =
-    IsPresetPage w s g × (n ≡ 1) × (first ≡ page_block w s.0 g) × IsTrue (is_loading w h (Page s g))
+    (n ≡ 1) × HaveBlocks w h s g n first × (IsTrue (is_live w h s.0) → IsTrue (is_loading w h (Page s g)))
 DoneKind w h _ n first = ⊥
 
 -- one of the requests in flight, which is done well
@@ -150,11 +204,15 @@ pub record DoneFits (w : Workload) (h : List Event) (k : ℕ) (id : ReqId) (ok :
 -- what is known of an event by its kind; no other kind comes next
 abbrev pub FitsKind : Workload → List Event → Event → Type 0
 FitsKind w h (Enter p k) = Unit {0}
-FitsKind w h (Admit p) = FilesFit w h
+FitsKind w h (Admit p) = Unit {0}
+FitsKind w h (Make by slot serial) = MakeFits w h by slot serial
 FitsKind w h (Put by s g from to fill) = PutFits w h by s g from to fill
 FitsKind w h (Get by s g from to sum) = GetFits w h by s g from to sum
+FitsKind w h (Drop by slot serial) = DropFits w h slot serial
 FitsKind w h (Ret p r) = Unit {0}
 FitsKind w h (Serve s g n) = Unit {0}
+FitsKind w h (Map slot s g n block new size) = MapFits w h slot s g n block new size
+FitsKind w h Skip = Unit {0}
 FitsKind w h (Add by r) = AddFits w h by r
 FitsKind w h (Send id cost) = SendFits w h id cost
 FitsKind w h (Done k id ok) = DoneFits w h k id ok

@@ -1,17 +1,20 @@
 -- What the parts hand to each other with an event, by its kind.
-use Rattle.std.specs.Prelude.{◌≡◌, ℕ, ◌*◌, ◌<◌, List, length, slice_get, Option, Some, None}
+use Rattle.std.specs.Prelude.{◌≡◌, ℕ, List, count_by, slice_get, is_none, not, ◌&&◌}
 use Rattle.split_types.specs.declared.ids.Pid.{Pid}
-use Rattle.split_types.specs.declared.ids.Serial.{Serial}
+use Rattle.split_types.specs.declared.buf.Buf.TheVariants.{Page}
 use Rattle.split_types.specs.declared.workload.Workload.{Workload}
 use Rattle.split_types.specs.declared.event.Event.{Event}
-use Rattle.split_types.specs.declared.event.Event.TheVariants.{Admit, Send, Done}
+use Rattle.split_types.specs.declared.event.Event.TheVariants.{Admit, Make, Put, Drop, Send, Done}
 use Rattle.split_types.specs.Requests.{requests}
 use Rattle.split_types.specs.CostAndClock.{cost_of}
 use Rattle.split_types.specs.Blame.{tag}
-use Rattle.split_types.specs.Calls.{call_of}
-use Rattle.split_types.specs.Workloads.{pages_in}
+use Rattle.split_types.specs.Calls.{call_of, name_of}
 use Rattle.split_types.specs.Files.{file_for}
 use Rattle.split_types.specs.FileSizes.{size_of_some}
+use Rattle.split_types.specs.FileMaps.{mapped_block, reserved_pages}
+use Rattle.split_types.specs.Pages.{is_dirty}
+use Rattle.split_types.specs.PagesInCache.{is_page_of}
+use Rattle.std.specs.Option.{option_map}
 use Rattle.split_core.specs.declared.parts.Given.{Given}
 
 -- of a call that is admitted the file that it works on, and its size
@@ -25,18 +28,14 @@ pub record GivenDone (w : Workload) (h : List Event) (id : ℕ) (g : Given) : Ty
   pub cost_is : g.cost ≡ cost_of h id
   pub tag_is : g.tag ≡ tag h id
 
--- the file, if there is one, is a preset one
-abbrev pub IsWithin : Workload → Option Serial → Type 0
-IsWithin w None = Unit {0}
-IsWithin w (Some s) = s.0 < length w.files
-
--- the size of a preset file, if there is one
-abbrev pub preset_size : Workload → Option Serial → ℕ
-preset_size w None = 0
-preset_size w (Some s) = 4096 * pages_in w s.0
-
+-- of a make the name that its call names; of a put whether a free block is to be promised to its page, which becomes
+-- dirty and has none; of a drop to how many pages of the file one is promised
 abbrev pub IsGiven : Workload → List Event → Event → Given → Type 0
 IsGiven w h (Admit p) g = GivenAdmit w h p g
+IsGiven w h (Make by slot serial) g = g.name ≡ option_map name_of (call_of w h by.0)
+IsGiven w h (Put by s page from to fill) g =
+    g.promise ≡ (not (is_dirty w h (Page s page)) && is_none (mapped_block w h s.0 page))
+IsGiven w h (Drop by slot s) g = g.promised ≡ count_by (is_page_of s) (reserved_pages w h)
 IsGiven w h (Send id cost) g = g.request ≡ slice_get (requests h) id.0
 IsGiven w h (Done k id ok) g = GivenDone w h id.0 g
 IsGiven w h _ g = Unit {0}

@@ -1,9 +1,10 @@
-pub mod Names
 pub mod Plans
 pub mod Fits
+pub mod Asks
 pub mod Givens
 pub mod Awaits
 pub mod Clients
+pub mod Filing
 pub mod Pages
 pub mod Book
 pub mod Dispatch

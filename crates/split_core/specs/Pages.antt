@@ -1,6 +1,7 @@
 -- What the cache that is kept has to do with a history.
-use Rattle.std.specs.Prelude.{◌≡◌, ℕ, ◌+◌, ◌<◌, ◌≤◌, List, [], ◌∷◌, length, slice_get, count_by, is_some, Some, not}
-use Rattle.std.specs.Prelude.{if◌then◌else◌, IsTrue}
+use Rattle.std.specs.Prelude.{◌≡◌, ℕ, ◌+◌, ◌<◌, ◌≤◌, List, [], ◌∷◌, length, slice_get, count_by, is_some, Some, not, ◌&&◌}
+use Rattle.std.specs.Prelude.{if◌then◌else◌, true, IsTrue, IsFalse}
+use Rattle.split_types.specs.declared.ids.Pid.{Pid}
 use Rattle.split_types.specs.declared.ids.Serial.{Serial}
 use Rattle.split_types.specs.declared.buf.Buf.{Buf}
 use Rattle.split_types.specs.declared.buf.Buf.TheVariants.{Page}
@@ -17,13 +18,14 @@ use Rattle.split_types.specs.Accepted.{IsAccepted}
 use Rattle.cause_set.specs.Tags.{Tags, held, same}
 use Rattle.page_cache.specs.Cached as cached
 use Rattle.page_cache.specs.Cached.{Cached}
-use Rattle.page_cache.specs.Changes.{bytes_in, written, KeepsTouches}
+use Rattle.page_cache.specs.Changes.{ChangesOnly, ChangesEach, Touches, KeepsTouches, bytes_in, loaded, written, unpinned}
 use Rattle.std.specs.Option.{option_map}
 use Rattle.split_types.specs.declared.request.Request.{Request}
 use Rattle.split_types.specs.declared.event.Event.TheVariants.{Done}
 use Rattle.split_types.specs.Requests.{requests}
 use Rattle.split_types.specs.Hooks.{is_among}
 use Rattle.split_types.specs.Parents.{pages_of}
+use Rattle.split_core.specs.Asks.{asks}
 use Rattle.split_core.specs.Fits.{Fits}
 use Rattle.split_core.specs.declared.note.pages.Pages.{Pages}
 
@@ -67,7 +69,7 @@ pub record PagesBefore (w : Workload) (p : Pages) (store : Tags) (h : List Event
   pub stands : PagesStand w p store h
   pub tags : TagsStand p store
   pub fits : Fits w h e
-  pub room : HasPagesRoom p store
+  pub room : asks e ≡ true → HasPagesRoom p store
 
 -- after it: the cache stands for the history with it
 pub record PagesAfter (w : Workload) (p : Pages) (store : Tags) (h : List Event) : Type 0 where
@@ -79,14 +81,35 @@ abbrev pub IsDoneOf : List Event → Event → Request → Type 0
 IsDoneOf h (Done k id ok) r = slice_get (requests h) id.0 ≡ Some r
 IsDoneOf h e r = ⊥
 
--- the n pages of a file from this one on aren't busy any more; those among them that aren't dirty are settled
+-- the n pages of a file from this one on aren't busy any more; those that were, and aren't dirty, are settled
 pub record Releases (old new : Cached) (s : Serial) (page n : ℕ) : Type 0 where
   pub pages : (b : Buf) → cached.page_of new b
       ≡ (if is_among s page n b then option_map written (cached.page_of old b) else cached.page_of old b)
   pub count : cached.held_in new ≡ cached.held_in old
   pub settled : cached.unsettled_in new
-      + count_by (λ b. not (is_some (cached.tag_in (cached.page_of old b)))) (pages_of s page n)
+      + count_by (λ b. cached.is_busy (cached.page_of old b) && not (is_some (cached.tag_in (cached.page_of old b))))
+      (pages_of s page n)
       ≡ cached.unsettled_in old
   pub tags : (m : ℕ) → held same (cached.tags_in new) m ≡ held same (cached.tags_in old) m
   pub limit : new.limit ≡ old.limit
   pub touches : KeepsTouches old new
+
+-- a page that is loading has these bytes; if it isn't loading, nothing changes
+pub record Loads (old new : Cached) (b : Buf) (bytes : List ℕ) : Type 0 where
+  pub page : IsTrue (cached.is_loading (cached.page_of old b))
+      → ChangesOnly old new b (option_map (loaded bytes) (cached.page_of old b))
+  pub touched : IsTrue (cached.is_loading (cached.page_of old b)) → Touches old new b
+  pub still : IsFalse (cached.is_loading (cached.page_of old b)) → new ≡ old
+
+-- a page that is held is touched; if it isn't held, nothing changes
+pub record TouchesHeld (old new : Cached) (b : Buf) : Type 0 where
+  pub rest : new ≡ record old { touches = new.touches }
+  pub touched : IsTrue (is_some (cached.page_of old b)) → Touches old new b
+  pub still : IsFalse (is_some (cached.page_of old b)) → new ≡ old
+
+-- then the process pins nothing any more
+pub record Gets (old new : Cached) (b : Buf) (by : Pid) : Type 0 where
+  pub mid : Cached
+  pub touches : TouchesHeld old mid b
+  pub pages : ChangesEach mid new (λ k. unpinned by)
+  pub tags : cached.tags_in new ≡ cached.tags_in mid

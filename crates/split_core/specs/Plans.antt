@@ -1,11 +1,10 @@
 -- What a plan has to do with its workload.
-use Rattle.std.specs.Prelude.{◌≡◌, ℕ, ◌+◌, ◌<◌, List, [], length, map, filter, slice_get, slice_index, slice_index_or}
+use Rattle.std.specs.Prelude.{◌≡◌, ℕ, ◌+◌, ◌<◌, List, [], length, map, filter, slice_get, slice_index_or}
 use Rattle.std.specs.Prelude.{Some}
 use Rattle.split_types.specs.declared.ids.Pid.{Pid}
 use Rattle.split_types.specs.declared.call.Call.{Call}
 use Rattle.split_types.specs.declared.workload.Workload.{Workload}
-use Rattle.split_types.specs.Workloads.{is_call_of, page_index}
-use Rattle.split_core.specs.Names.{AreNames}
+use Rattle.split_types.specs.Workloads.{is_call_of}
 use Rattle.split_core.specs.declared.plan.Plan.{Plan}
 
 -- these are the places, among all calls, of those of process p
@@ -15,6 +14,3 @@ ArePlaces calls p places = map (slice_get calls) places ≡ map Some (filter (is
 pub record PlanStands (w : Workload) (p : Plan) : Type 0 where
   pub callers : length p.calls.items ≡ length w.procs
   pub calls_are : (i : ℕ) → i < length w.procs → ArePlaces w.calls (i + 1) (slice_index_or p.calls.items i [])
-  pub files : length p.firsts.items ≡ length w.files
-  pub names_are : AreNames w.files p.names
-  pub firsts_are : (s : ℕ) → s < length w.files → slice_index p.firsts.items s ≡ page_index w s 0

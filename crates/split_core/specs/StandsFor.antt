@@ -11,6 +11,7 @@ use Rattle.split_core.specs.Plans.{PlanStands}
 use Rattle.split_core.specs.Clients.{ClientsStand}
 use Rattle.tag_table.specs.Tags.{tags_of}
 use Rattle.split_core.specs.Pages.{PagesStand, TagsStand, HasPagesRoom}
+use Rattle.split_core.specs.Filing.{FilingStands, HasFilingRoom}
 use Rattle.split_core.specs.Medium.{MediumStands, HasMediumRoom}
 use Rattle.split_core.specs.Book.{BookStands}
 use Rattle.split_core.specs.Dispatch.{DispatchStands}
@@ -27,6 +28,7 @@ pub record Simulation : Type 0 where
 -- each part stands for the history h
 pub record PartsStand (w : Workload) (p : Parts) (h : List Event) : Type 0 where
   pub clients : ClientsStand w p.clients h
+  pub filing : FilingStands w p.filing h
   pub pages : PagesStand w p.pages (tags_of p.tags) h
   pub tags : TagsStand p.pages (tags_of p.tags)
   pub medium : MediumStands w p.medium h
@@ -41,6 +43,7 @@ pub record PartsStand (w : Workload) (p : Parts) (h : List Event) : Type 0 where
 pub record HasRoom (p : Parts) : Type 0 where
   pub book : vec_len p.book.entries < vec_capacity p.book.entries
   pub queue : 0 < p.dispatch.queue.spare
+  pub filing : HasFilingRoom p.filing
   pub medium : HasMediumRoom p.medium
   pub pages : HasPagesRoom p.pages (tags_of p.tags)
 

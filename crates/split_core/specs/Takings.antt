@@ -26,5 +26,5 @@ IsTagged h (Add by r) tag = tag ≡ blame (h ▹ Add by r) (length h)
 IsTagged h e tag = Unit {0}
 
 pub record IsTaken (w : Workload) (h : List Event) (e : Event) (t : Taken) : Type 0 where
-  pub bytes : Brings w h e t.bytes.items
+  pub bytes : Brings w h e t.cargo
   pub tag : IsTagged h e t.tag

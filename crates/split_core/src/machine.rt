@@ -2,7 +2,6 @@
 ghost use Rattle.std.specs.Prelude.{◌≡◌, ℕ, ◌<◌, ◌≤◌, [], length, IfOk};
 ghost use Rattle.split_types.specs.Accepted.{IsAccepted};
 ghost use Rattle.split_types.specs.Legal.{IsLegal};
-ghost use Rattle.split_types.specs.Workloads.{first_block};
 ghost use Rattle.split_types.specs.DiskBytes.{disk_block};
 ghost use Rattle.sim_disk.specs.Bytes.{block_at};
 
@@ -14,8 +13,8 @@ use split_types::Workload;
 use std::alloc::{AllocError, Global};
 use std::marker::Model;
 
-/// So many events come of a call that writes one page: it is entered and admitted, puts, and returns, and the page is
-/// served, added, sent and done.
+/// So many events come of a call that writes one page which has its block: it is entered and admitted, puts, and
+/// returns, and the page is served, added, sent and done.
 const EVENTS_OF_A_CALL: u32 = 8;
 
 /// The stack of a workload: the events that it has made, and what it needs to make the next.
@@ -75,10 +74,11 @@ impl Core {
         &self.workload
     }
 
-    /// The disk: each block of data holds what the last write of it that was done well carried.
+    /// The disk: each block holds what the last write of it that was done well carried, and before any the metadata of
+    /// the preset files or their bytes.
     pub fn disk(&self) -> &Disk
         ensures size { length result.now.blocks ≡ self.now.workload.device }
-        ensures blocks { (x : ℕ) → first_block self.now.workload ≤ x → x < self.now.workload.device
+        ensures blocks { (x : ℕ) → x < self.now.workload.device
             → block_at result.now.blocks x ≡ disk_block self.now.workload self.now.history x }
     {
         &self.parts.medium.disk

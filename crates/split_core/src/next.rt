@@ -1,20 +1,13 @@
 //! What each actor does next.
-ghost use Rattle.std.specs.Prelude.{◌≡◌, ◌≤◌, ◌<◌, length, IfSome};
-ghost use Rattle.split_types.specs.History.{adds};
-ghost use Rattle.split_types.specs.Writeback.{next_serve, request_for, next_of_writeback};
+ghost use Rattle.std.specs.Prelude.{◌≡◌, ◌≤◌, length, is_some};
+ghost use Rattle.split_types.specs.FileSizes.{if_live};
 ghost use Rattle.split_types.specs.Next.{next_of_dispatcher, next_of_completion, next};
-ghost use Rattle.split_types.specs.Proving.Runs.{IsPresetRun};
-ghost use Rattle.client_calls.specs.View.{piece_left};
-ghost use Rattle.split_core.specs.Clients.{IsProgress, block_on};
+ghost use Rattle.split_core.specs.Clients.{IsProgress};
 
 use crate::machine::Core;
-use crate::parts::FIRST_DATA_BLOCK;
-use client_calls::{ClientNext, ClientView, Progress, next_of, piece_left};
+use client_calls::{ClientNext, ClientView, Progress, next_of};
 use cost_model::cost;
-use split_types::{Actor, Buf, Event, Pid, ReqId, ReqKind, Request, Run, Service};
-
-/// How many pages writeback serves together at most.
-const LONGEST_RUN: u32 = 16;
+use split_types::{Actor, Event, Pid, ReqId, Serial};
 
 impl Core {
     /// How far a process has come, as the decision on its next event sees it.
@@ -29,26 +22,12 @@ impl Core {
             number: client.returned,
             entered: client.entered,
             admitted: client.admitted,
+            acted: client.acted,
             bound: client.file,
             size_at_admit: client.size,
             moved: client.moved as u32,
             sum: client.got,
             bad_read: false,
-        }
-    }
-
-    /// The block of the page of the first piece that is left of a call; none where no piece is left, or its page has
-    /// none.
-    fn block_of(&self, progress: &Progress) -> Option<u32>
-        requires { IfSome progress.now.bound (λ s. s.0 < length self.now.workload.files) }
-        ensures { result ≡ block_on self.now.workload progress.now.bound (piece_left progress.now) }
-    {
-        let serial = progress.bound?;
-        let piece = piece_left(progress)?;
-        if piece.page < self.workload.files.at(serial.0 as usize).pages {
-            Some(FIRST_DATA_BLOCK + self.plan.place(&self.workload, serial, piece.page) as u32)
-        } else {
-            None
         }
     }
 
@@ -58,13 +37,14 @@ impl Core {
         requires last { p.0 ≤ length self.now.workload.procs }
         ensures { result ≡ next self.now.workload self.now.history (Actor.Client p) }
     {
-        let progress = self.progress(p);
         let view = ClientView {
             cache: &self.parts.pages.cache,
             places: self.workload.cache,
             n: self.workload.procs.len() as u32,
-            block: self.block_of(&progress),
-            progress,
+            fs: &self.parts.filing.fs,
+            alloc: &self.parts.filing.alloc,
+            mapped: self.mapped(),
+            progress: self.progress(p),
             may_admit: true,
             next_id: ReqId(self.parts.book.entries.len() as u32),
         };
@@ -74,59 +54,27 @@ impl Core {
         }
     }
 
-    /// The next event of a process: none while it awaits a read.
+    /// Whether the file that a call is bound to is still there.
+    fn is_there(&self, file: Option<Serial>) -> bool
+        ensures { result ≡ is_some (if_live self.now.workload self.now.history file) }
+    {
+        match file {
+            Some(serial) => self.parts.filing.fs.slot_of(serial).is_some(),
+            None => false,
+        }
+    }
+
+    /// The next event of a process: none while it awaits a read of a file that is there.
     pub(crate) fn next_of_client(&self, p: Pid) -> Option<Event>
         requires first { 1 ≤ p.0 }
         requires last { p.0 ≤ length self.now.workload.procs }
         ensures { result ≡ next self.now.workload self.now.history (Actor.Client p) }
     {
         let client = self.parts.clients.client(&self.workload, &self.history, p);
-        if client.awaits {
+        if client.awaits && self.is_there(client.file) {
             None
         } else {
             self.next_by_view(p)
-        }
-    }
-
-    /// The serve of a run from the first page that is ready.
-    fn next_serve(&self) -> Option<Event>
-        ensures { result ≡ next_serve self.now.workload self.now.history }
-    {
-        let pages = &self.parts.pages;
-        let Buf::Page(serial, page) = pages.cache.first_dirty()? else {
-            return None;
-        };
-        let left = self.workload.files.at(serial.0 as usize).pages - page;
-        Some(Event::Serve {
-            serial,
-            page,
-            n: pages.ready_from(serial, page, LONGEST_RUN.min(left)),
-        })
-    }
-
-    /// The request that writes out the run that is served.
-    fn request_for(&self, run: Run) -> Request
-        requires { IsPresetRun self.now.workload run.serial run.page run.n }
-        ensures { result ≡ request_for self.now.workload (adds self.now.history) run }
-    {
-        Request {
-            id: ReqId(self.parts.book.entries.len() as u32),
-            kind: ReqKind::Pages(run.serial, run.page),
-            first: FIRST_DATA_BLOCK + self.plan.place(&self.workload, run.serial, run.page) as u32,
-            n: run.n,
-        }
-    }
-
-    /// The next event of writeback.
-    fn next_of_writeback(&self) -> Option<Event>
-        ensures { result ≡ next_of_writeback self.now.workload self.now.history }
-    {
-        match self.parts.service.service {
-            Service::Idle => self.next_serve(),
-            Service::Serving(run) | Service::Mapped(run) => Some(Event::Add {
-                by: Actor::Wb,
-                req: self.request_for(run),
-            }),
         }
     }
 

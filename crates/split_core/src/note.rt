@@ -5,6 +5,7 @@ pub(crate) mod cargo;
 pub(crate) mod clients;
 pub(crate) mod counts;
 pub(crate) mod dispatch;
+pub(crate) mod filing;
 pub(crate) mod medium;
 pub(crate) mod money;
 pub(crate) mod pages;

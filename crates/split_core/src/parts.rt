@@ -1,19 +1,28 @@
 //! The parts together, and what one hands to another.
-ghost use Rattle.std.specs.Prelude.{◌≡◌, ◌+◌, ◌≤◌, List, [], length, Some, IfOk, OnOk};
+ghost use Rattle.std.specs.Prelude.{◌≡◌, ◌<◌, ◌&&◌, List, [], true, Some, None, not, is_none, count_by, IfOk, OnOk};
+ghost use Rattle.std.specs.Option.{option_copied};
 ghost use Rattle.split_types.specs.declared.workload.Workload.{Workload};
 ghost use Rattle.split_types.specs.declared.event.Event.{Event};
-ghost use Rattle.split_types.specs.History.{◌▹◌};
+ghost use Rattle.split_types.specs.History.{◌▹◌, adds};
 ghost use Rattle.split_types.specs.Calls.{call_of};
+ghost use Rattle.split_types.specs.declared.event.Event.TheVariants as event;
+ghost use Rattle.split_types.specs.declared.buf.Buf.TheVariants as buf;
+ghost use Rattle.split_types.specs.Legal.{IsLegal};
 ghost use Rattle.split_types.specs.Files.{file_for};
+ghost use Rattle.split_types.specs.FileSizes.{size_of_some};
+ghost use Rattle.split_types.specs.FileMaps.{mapped_block, is_reserved, reserved_pages};
+ghost use Rattle.split_types.specs.Pages.{is_dirty};
+ghost use Rattle.split_types.specs.PagesInCache.{is_page_of};
 ghost use Rattle.split_types.specs.Accepted.{IsAccepted};
 ghost use Rattle.split_core.specs.Plans.{PlanStands};
-ghost use Rattle.split_core.specs.Fits.{ClientFits, FilesFit, Fits};
-ghost use Rattle.split_core.specs.Givens.{IsWithin, preset_size, IsGiven};
+ghost use Rattle.split_core.specs.Asks.{asks};
+ghost use Rattle.split_core.specs.Fits.{ClientFits, DropFits, IsFilePage, Fits};
+ghost use Rattle.split_core.specs.Givens.{IsGiven, GivenDone};
 ghost use Rattle.tag_table.specs.Tags.{tags_of};
 ghost use Rattle.split_core.specs.Book.{BookStands};
 ghost use Rattle.split_core.specs.Clients.{ClientsStand};
 ghost use Rattle.split_core.specs.Counts.{CountsStand};
-ghost use Rattle.split_core.specs.Dispatch.{DispatchStands};
+ghost use Rattle.split_core.specs.Filing.{FilingStands};
 ghost use Rattle.split_core.specs.Medium.{MediumStands};
 ghost use Rattle.split_core.specs.Money.{MoneyStands};
 ghost use Rattle.split_core.specs.Pages.{PagesStand, TagsStand};
@@ -23,6 +32,7 @@ use crate::note::book::Book;
 use crate::note::clients::Clients;
 use crate::note::counts::Counts;
 use crate::note::dispatch::Dispatch;
+use crate::note::filing::{Filing, name_of};
 use crate::note::medium::Medium;
 use crate::note::money::Money;
 use crate::note::pages::Pages;
@@ -31,12 +41,9 @@ use crate::note::time::Time;
 use crate::plan::Plan;
 use cause_set::{Causes, TagStore};
 use hook_events::History;
-use split_types::{Call, Event, Pid, Request, Serial, Workload, actor_of};
+use split_types::{Call, Event, Name, Pid, ReqId, Request, Serial, Slot, Workload, actor_of};
 use std::alloc::{AllocError, Global};
 use tag_table::Table;
-
-/// The first block of the disk that holds data.
-pub(crate) const FIRST_DATA_BLOCK: u32 = 526;
 
 /// The bytes of a page.
 const PAGE: u32 = 4096;
@@ -48,6 +55,7 @@ const TAGS_OF_AN_EVENT: u32 = 16;
 #[derive(Drop)]
 pub(crate) struct Parts {
     pub(crate) clients: Clients,
+    pub(crate) filing: Filing,
     pub(crate) pages: Pages,
     /// The store of the tags that pages have.
     pub(crate) tags: Table,
@@ -61,40 +69,47 @@ pub(crate) struct Parts {
 }
 
 /// What one part hands to another with an event: of a call that is admitted the file that it works on and the
-/// file's size, of a send or completion its request, and of a completion the cost and the tag.
+/// file's size; of a make the name of its file; of a put whether its page needs the promise of a free block; of a
+/// drop how many pages of the file have such a promise; of a send or completion its request, and of a completion the
+/// cost and the tag.
 #[derive(Clone, Copy, Debug)]
 pub(crate) struct Given {
     pub(crate) file: Option<Serial>,
     pub(crate) size: u32,
+    pub(crate) name: Option<Name>,
+    pub(crate) promise: bool,
+    pub(crate) promised: u32,
     pub(crate) request: Option<Request>,
     pub(crate) cost: u64,
     pub(crate) tag: Causes,
 }
 
+/// Whether an event asks for memory.
+fn asks(e: &Event) -> bool
+    ensures { result ≡ asks e.now }
+{
+    matches!(
+        *e,
+        Event::Make { .. } | Event::Put { .. } | Event::Add { .. } | Event::Send { .. },
+    )
+}
+
 impl Given {
     /// Nothing.
     fn none() -> Given
-        ensures { result ≡ record { file = None; size = 0; request = None; cost = 0; tag = [] } }
+        ensures file { result.file ≡ None }
+        ensures size { result.size ≡ 0 }
     {
         Given {
             file: None,
             size: 0,
+            name: None,
+            promise: false,
+            promised: 0,
             request: None,
             cost: 0,
             tag: Causes::none(),
         }
-    }
-}
-
-/// The size of a preset file, if there is one.
-fn size_of(w: &Workload, file: Option<Serial>) -> u32
-    requires accepted { IsAccepted w.now }
-    requires file { IsWithin w.now file }
-    ensures { result ≡ preset_size w.now file }
-{
-    match file {
-        Some(serial) => PAGE * w.files.at(serial.0 as usize).pages,
-        None => 0,
     }
 }
 
@@ -125,15 +140,15 @@ fn sums(alloc: Global, w: &Workload) -> Result<(Money, Counts), AllocError>
     Ok((money, counts))
 }
 
-/// The disk, and the requests that wait for it, before any event.
-fn device(alloc: Global, w: &Workload) -> Result<(Medium, Dispatch), AllocError>
+/// The files, and the disk, before any event.
+fn device(alloc: Global, w: &Workload) -> Result<(Filing, Medium), AllocError>
     requires accepted { IsAccepted w.now }
-    ensures medium { IfOk result (λ r. MediumStands w.now r.0 []) }
-    ensures dispatch { IfOk result (λ r. DispatchStands r.1 []) }
+    ensures filing { IfOk result (λ r. FilingStands w.now r.0 []) }
+    ensures medium { IfOk result (λ r. MediumStands w.now r.1 []) }
 {
-    let dispatch = Dispatch::new(alloc)?;
-    let medium = Medium::new(alloc, w)?;
-    Ok((medium, dispatch))
+    let filing = Filing::new(alloc, w)?;
+    let medium = Medium::new(alloc, w, &filing.fs)?;
+    Ok((filing, medium))
 }
 
 /// The cache, and the store of its tags, before any event.
@@ -155,10 +170,12 @@ impl Parts {
     {
         let (clients, book) = calls_and_requests(alloc, w, plan)?;
         let (money, counts) = sums(alloc, w)?;
-        let (medium, dispatch) = device(alloc, w)?;
+        let (filing, medium) = device(alloc, w)?;
         let (pages, tags) = memory(alloc, w)?;
+        let dispatch = Dispatch::new(alloc)?;
         Ok(Parts {
             clients,
+            filing,
             pages,
             tags,
             medium,
@@ -171,37 +188,113 @@ impl Parts {
         })
     }
 
-    /// Makes room for whatever one more event asks for.
-    pub(crate) fn room(&mut self, alloc: Global) -> Result<(), AllocError>
+    /// Makes room for whatever this event asks for.
+    pub(crate) fn room(&mut self, alloc: Global, e: &Event) -> Result<(), AllocError>
         ensures stands { (w : Workload) (h : List Event) → PartsStand w self.old h → PartsStand w self.new h }
-        ensures ok { OnOk result (HasRoom self.new) }
+        ensures ok { OnOk result (asks e.now ≡ true → HasRoom self.new) }
     {
+        if !asks(e) {
+            return Ok(());
+        }
+        self.filing.room(alloc)?;
         self.pages.room(alloc)?;
         self.tags.room(TAGS_OF_AN_EVENT)?;
-        self.medium.room(alloc)?;
+        self.medium.room()?;
         self.book.room()?;
         self.dispatch.room()
     }
 
-    /// The file that the call of a process works on.
-    fn file_of_call(&self, w: &Workload, plan: &Plan, h: &History, p: Pid) -> Option<Serial>
+    /// The call of a process that is under way, or else its next one.
+    fn call_of<'a>(&self, w: &'a Workload, plan: &Plan, h: &History, p: Pid) -> Option<&'a Call>
         requires accepted { IsAccepted w.now }
         requires plan { PlanStands w.now plan.now }
         requires stands { PartsStand w.now self.now h.now.events }
         requires client { ClientFits w.now h.now.events p }
-        requires files { FilesFit w.now h.now.events }
-        ensures { result ≡ file_for w.now h.now.events (call_of w.now h.now.events p.0) }
+        ensures { option_copied result ≡ call_of w.now h.now.events p.0 }
     {
         let returned = self.clients.client(w, h, p).returned;
-        match plan.call(w, p, returned) {
-            None | Some(Call::Creat { .. }) => None,
-            Some(
-                Call::Write { name, .. }
-                | Call::Read { name, .. }
-                | Call::Fsync { name }
-                | Call::Unlink { name },
-            ) => plan.file_named(w, name),
+        plan.call(w, p, returned)
+    }
+
+    /// The file that a call works on where it is admitted now, and the file's size.
+    fn given_for(&self, w: &Workload, h: &History, call: &Call) -> Given
+        requires accepted { IsAccepted w.now }
+        requires legal { IsLegal w.now h.now.events }
+        requires stands { PartsStand w.now self.now h.now.events }
+        ensures file { result.file ≡ file_for w.now h.now.events (Some call.now) }
+        ensures size { result.size ≡ size_of_some w.now h.now.events (file_for w.now h.now.events (Some call.now)) }
+    {
+        let mut given = Given::none();
+        if let Some(slot) = self.filing.slot_for(w, h, call) {
+            given.file = Some(self.filing.fs.serial_of(slot));
+            given.size = self.filing.fs.size_of(slot);
         }
+        given
+    }
+
+    /// What is handed on of a call that is admitted.
+    fn given_admit(&self, w: &Workload, plan: &Plan, h: &History, p: Pid) -> Given
+        requires accepted { IsAccepted w.now }
+        requires plan { PlanStands w.now plan.now }
+        requires stands { PartsStand w.now self.now h.now.events }
+        requires fits { Fits w.now h.now.events (event.Admit p) }
+        ensures { IsGiven w.now h.now.events (event.Admit p) result }
+    {
+        match self.call_of(w, plan, h, p) {
+            None => Given::none(),
+            Some(call) => self.given_for(w, h, call),
+        }
+    }
+
+    /// What is handed on of a file that is made.
+    fn given_make(
+        &self,
+        w: &Workload,
+        plan: &Plan,
+        h: &History,
+        by: Pid,
+        slot: Slot,
+        serial: Serial,
+    ) -> Given
+        requires accepted { IsAccepted w.now }
+        requires plan { PlanStands w.now plan.now }
+        requires stands { PartsStand w.now self.now h.now.events }
+        requires fits { Fits w.now h.now.events (event.Make by slot serial) }
+        ensures { IsGiven w.now h.now.events (event.Make by slot serial) result }
+    {
+        let mut given = Given::none();
+        given.name = match self.call_of(w, plan, h, by) {
+            None => None,
+            Some(call) => Some(*name_of(call)),
+        };
+        given
+    }
+
+    /// Whether a page that is put needs the promise of a free block.
+    fn is_promise_due(&self, w: &Workload, h: &History, serial: Serial, page: u32) -> bool
+        requires accepted { IsAccepted w.now }
+        requires legal { IsLegal w.now h.now.events }
+        requires stands { PartsStand w.now self.now h.now.events }
+        requires page { IsFilePage w.now h.now.events serial page }
+        ensures { result ≡ (not (is_dirty w.now h.now.events (buf.Page serial page))
+            && is_none (mapped_block w.now h.now.events serial.0 page)) }
+    {
+        !self.pages.is_dirty(w, h, serial, page)
+            && self.filing.block_of(w, h, serial, page).is_none()
+    }
+
+    /// What is handed on of a request that is done.
+    fn given_done(&self, w: &Workload, h: &History, id: ReqId) -> Given
+        requires book { BookStands self.now.book h.now.events }
+        requires added { id.0 < adds h.now.events }
+        ensures { GivenDone w.now h.now.events id.0 result }
+    {
+        let entry = self.book.entry(h, id);
+        let mut given = Given::none();
+        given.request = Some(entry.request);
+        given.cost = entry.cost;
+        given.tag = entry.tag;
+        given
     }
 
     /// What the parts hand to each other with an event.
@@ -214,20 +307,51 @@ impl Parts {
     {
         let mut given = Given::none();
         match *e {
-            Event::Admit { by } => {
-                given.file = self.file_of_call(w, plan, h, by);
-                given.size = size_of(w, given.file);
-            }
+            Event::Admit { by } => given = self.given_admit(w, plan, h, by),
+            Event::Make { by, slot, serial } => given = self.given_make(
+                w, plan, h, by, slot, serial,
+            ),
+            Event::Put { serial, page, .. } => given.promise = self.is_promise_due(
+                w, h, serial, page,
+            ),
+            Event::Drop { slot, serial, .. } => given.promised = self.promises_of(
+                w, h, slot, serial,
+            ),
             Event::Send { id, .. } => given.request = Some(self.book.entry(h, id).request),
-            Event::Done { id, .. } => {
-                let entry = self.book.entry(h, id);
-                given.request = Some(entry.request);
-                given.cost = entry.cost;
-                given.tag = entry.tag;
-            }
+            Event::Done { id, .. } => given = self.given_done(w, h, id),
             _ => {}
         }
         given
+    }
+
+    /// Whether a free block is promised to a page of a file that is there.
+    fn is_promised(&self, w: &Workload, h: &History, serial: Serial, page: u32) -> bool
+        requires accepted { IsAccepted w.now }
+        requires legal { IsLegal w.now h.now.events }
+        requires stands { PartsStand w.now self.now h.now.events }
+        requires page { IsFilePage w.now h.now.events serial page }
+        ensures { result ≡ is_reserved w.now h.now.events (buf.Page serial page) }
+    {
+        self.pages.is_dirty(w, h, serial, page)
+            && self.filing.block_of(w, h, serial, page).is_none()
+    }
+
+    /// To how many pages of a file a free block is promised.
+    fn promises_of(&self, w: &Workload, h: &History, slot: Slot, serial: Serial) -> u32
+        requires accepted { IsAccepted w.now }
+        requires stands { PartsStand w.now self.now h.now.events }
+        requires legal { IsLegal w.now h.now.events }
+        requires file { DropFits w.now h.now.events slot serial }
+        ensures { result ≡ count_by (is_page_of serial) (reserved_pages w.now h.now.events) }
+    {
+        let pages = self.filing.fs.size_of(slot).div_ceil(PAGE);
+        let mut promised = 0;
+        for page in 0..pages {
+            if self.is_promised(w, h, serial, page) {
+                promised += 1;
+            }
+        }
+        promised
     }
 
     /// Takes note of an event.
@@ -245,16 +369,17 @@ impl Parts {
         requires stands { PartsStand w.now self.old h.now.events }
         requires fits { Fits w.now h.now.events e.now }
         requires given { IsGiven w.now h.now.events e.now given.now }
-        requires room { HasRoom self.old }
+        requires room { asks e.now ≡ true → HasRoom self.old }
         ensures { PartsStand w.now self.new (h.now.events ▹ e.now) }
     {
         let actor = actor_of(e);
+        self.filing.note(alloc, w, h, e, given);
         let taken = self
             .pages
             .note(alloc, &mut self.tags, &self.medium, w, h, e, given);
         self.clients.note(w, plan, h, actor, e, given);
         self.book.note(w, h, e, &taken.tag);
-        self.medium.note(w, h, e, given, taken.bytes);
+        self.medium.note(w, h, e, given, taken.cargo);
         self.dispatch.note(w, h, e);
         self.service.note(w, h, e);
         self.time.note(w, h, e, given);

@@ -1,27 +1,18 @@
 //! What the workload alone fixes.
-ghost use Rattle.std.specs.Prelude.{◌≡◌, ℕ, ◌+◌, ◌<◌, ◌≤◌, ◌^◌, ◌++◌, length, map, sum_by, slice_get, slice_index};
-ghost use Rattle.std.specs.Prelude.{slice_index_or, replicate, take, Some, [], IfOk, OnOk};
-ghost use Rattle.std.specs.Option.{option_map, option_copied};
-ghost use Rattle.split_types.specs.Parents.{pages_of};
-ghost use Rattle.split_types.specs.Workloads.{calls_of, file_named, pages_in, page_index, pages_from, preset_pages};
-ghost use Rattle.split_types.specs.Workloads.{all_pages};
+ghost use Rattle.std.specs.Prelude.{◌≡◌, ℕ, ◌+◌, ◌<◌, ◌≤◌, length, slice_get, slice_index_or, replicate, [], IfOk};
+ghost use Rattle.std.specs.Option.{option_copied};
+ghost use Rattle.split_types.specs.Workloads.{calls_of};
 ghost use Rattle.split_types.specs.Accepted.{IsAccepted};
 ghost use Rattle.split_core.specs.Plans.{ArePlaces, PlanStands};
 
-use crate::names::{FileName, names_of};
-use fixed_places::Table;
-use split_types::{Call, List, Name, Pid, Preset, Serial, Workload};
+use split_types::{Call, List, Pid, Workload};
 use std::alloc::{AllocError, Global};
 
-/// Where the calls of each process stand, and the pages of each file.
+/// Where the calls of each process stand.
 #[derive(Debug, Drop)]
 pub(crate) struct Plan {
     /// The places of each process's calls among those of the workload.
     pub(crate) calls: Vec<List<u32>>,
-    /// The place of each file's first page among the pages of all preset files.
-    pub(crate) firsts: Vec<u32>,
-    /// Which file has a name.
-    pub(crate) names: Table<FileName>,
 }
 
 /// So many processes without a call.
@@ -49,22 +40,6 @@ fn places_of_calls(alloc: Global, w: &Workload) -> Result<Vec<List<u32>>, AllocE
     Ok(calls)
 }
 
-/// The place of each file's first page.
-fn first_places(alloc: Global, files: &[Preset]) -> Result<Vec<u32>, AllocError>
-    requires { sum_by (λ f. f.pages) files.now < 2 ^ 32 }
-    ensures files { IfOk result (λ v. length v.items ≡ length files.now) }
-    ensures firsts { IfOk result (λ v. (s : ℕ) → s < length files.now
-        → slice_index v.items s ≡ sum_by (λ f. f.pages) (take s files.now)) }
-{
-    let mut places = Vec::new(alloc);
-    let mut place = 0u32;
-    for file in files {
-        places.push(place)?;
-        place += file.pages;
-    }
-    Ok(places)
-}
-
 impl Plan {
     /// The plan of a workload.
     pub(crate) fn new(alloc: Global, w: &Workload) -> Result<Plan, AllocError>
@@ -72,34 +47,7 @@ impl Plan {
         ensures { IfOk result (λ p. PlanStands w.now p) }
     {
         let calls = places_of_calls(alloc, w)?;
-        let firsts = first_places(alloc, w.files.as_slice())?;
-        let names = names_of(alloc, w.files.as_slice())?;
-        Ok(Plan {
-            calls,
-            firsts,
-            names,
-        })
-    }
-
-    /// The place of a page.
-    pub(crate) fn place(&self, w: &Workload, serial: Serial, page: u32) -> usize
-        requires stands { PlanStands w.now self.now }
-        requires file { serial.0 < length w.now.files }
-        ensures { result ≡ page_index w.now serial.0 page }
-    {
-        self.firsts[serial.0 as usize] as usize + page as usize
-    }
-
-    /// The preset file of a name.
-    pub(crate) fn file_named(&self, w: &Workload, name: &Name) -> Option<Serial>
-        requires accepted { IsAccepted w.now }
-        requires stands { PlanStands w.now self.now }
-        ensures { result ≡ option_map (λ s. record { 0 = s }) (file_named w.now.files name.now) }
-    {
-        match self.names.find(&FileName(*name)) {
-            None => None,
-            Some(place) => Some(Serial(place as u32)),
-        }
+        Ok(Plan { calls })
     }
 
     /// How many calls a process has.

@@ -30,7 +30,7 @@ impl Core {
     {
         let place = self.history.len() as u32;
         self.history.room(1)?;
-        self.parts.room(self.alloc)?;
+        self.parts.room(self.alloc, e)?;
         let given = self
             .parts
             .given(&self.workload, &self.plan, &self.history, e);

@@ -1,8 +1,9 @@
 //! The requests, with what is known of each.
-ghost use Rattle.std.specs.Prelude.{◌≡◌, ◌<◌, [], List, IfOk, OnOk, vec_len};
+ghost use Rattle.std.specs.Prelude.{◌≡◌, ◌<◌, [], List, IfOk, OnOk, vec_len, true};
 ghost use Rattle.std.specs.Vec.{vec_capacity};
 ghost use Rattle.split_types.specs.declared.event.Event.{Event};
 ghost use Rattle.split_types.specs.History.{◌▹◌, adds};
+ghost use Rattle.split_core.specs.Asks.{asks};
 ghost use Rattle.split_core.specs.Fits.{Fits};
 ghost use Rattle.split_core.specs.Takings.{IsTagged};
 ghost use Rattle.split_core.specs.Book.{IsEntry, BookStands};
@@ -58,7 +59,7 @@ impl Book {
         requires stands { BookStands self.old h.now.events }
         requires fits { Fits w.now h.now.events e.now }
         requires tag { IsTagged h.now.events e.now tag.now }
-        requires room { vec_len self.old.entries < vec_capacity self.old.entries }
+        requires room { asks e.now ≡ true → vec_len self.old.entries < vec_capacity self.old.entries }
         ensures { BookStands self.new (h.now.events ▹ e.now) }
     {
         match *e {

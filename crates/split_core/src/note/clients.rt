@@ -1,6 +1,5 @@
 //! How far each process has come.
-ghost use Rattle.std.specs.Prelude.{◌≡◌, ◌≢◌, ℕ, ◌+◌, ◌-◌, ◌<◌, ◌≤◌, ◌^◌, List, [], length, slice_get, Some, IfOk};
-ghost use Rattle.std.specs.Prelude.{IsTrue, IsFalse};
+ghost use Rattle.std.specs.Prelude.{◌≡◌, ◌≢◌, ℕ, ◌+◌, ◌-◌, ◌<◌, ◌≤◌, [], length, slice_get, Some, IfOk};
 ghost use Rattle.split_types.specs.declared.workload.Workload.{Workload};
 ghost use Rattle.split_core.specs.declared.note.clients.Client.{Client};
 ghost use Rattle.split_types.specs.declared.actor.Actor.TheVariants as actor;
@@ -28,13 +27,16 @@ pub(crate) struct Client {
     /// Whether a call is under way, and whether it was admitted.
     pub(crate) entered: bool,
     pub(crate) admitted: bool,
-    /// The file that its admitted call works on, and the size that it had when the call was admitted.
+    /// Whether it made its file, or dropped it.
+    pub(crate) acted: bool,
+    /// The file that its admitted call is bound to, which may have been dropped since, and the size that it had when
+    /// the call was admitted.
     pub(crate) file: Option<Serial>,
     pub(crate) size: u32,
     /// The bytes that it put or got since it last entered a call, and the sum of those that it got.
     pub(crate) moved: u64,
     pub(crate) got: u64,
-    /// Whether a read that it added is queued or in flight.
+    /// Whether its call added a read, and no read for it was done since.
     pub(crate) awaits: bool,
 }
 
@@ -55,6 +57,7 @@ impl Client {
             returned: 0,
             entered: false,
             admitted: false,
+            acted: false,
             file: None,
             size: 0,
             moved: 0,
@@ -87,12 +90,15 @@ impl Client {
                 self.moved += u64::from(to - from);
                 self.got += sum;
             }
+            Event::Make { .. } | Event::Drop { .. } => self.acted = true,
             Event::Add { .. } => self.awaits = true,
             Event::Ret { .. } => {
                 self.returned += 1;
                 self.entered = false;
                 self.admitted = false;
+                self.acted = false;
                 self.file = None;
+                self.awaits = false;
             }
             _ => {}
         }

@@ -1,8 +1,9 @@
 //! The requests that are queued, and those that are in flight.
-ghost use Rattle.std.specs.Prelude.{◌≡◌, ◌==◌, ◌&&◌, ◌<◌, [], length, List, IfOk, OnOk};
+ghost use Rattle.std.specs.Prelude.{◌≡◌, ◌==◌, ◌&&◌, ◌<◌, [], length, List, IfOk, OnOk, true};
 ghost use Rattle.split_types.specs.History.{◌▹◌};
 ghost use Rattle.split_types.specs.declared.workload.Workload.{Workload};
 ghost use Rattle.split_types.specs.declared.event.Event.{Event};
+ghost use Rattle.split_core.specs.Asks.{asks};
 ghost use Rattle.split_core.specs.Fits.{Fits};
 ghost use Rattle.split_core.specs.Dispatch.{DispatchStands};
 
@@ -44,7 +45,7 @@ impl Dispatch {
     pub(crate) fn note(&mut self, w: &Workload, h: &History, e: &Event)
         requires stands { DispatchStands self.old h.now.events }
         requires fits { Fits w.now h.now.events e.now }
-        requires room { 0 < self.old.queue.spare }
+        requires room { asks e.now ≡ true → 0 < self.old.queue.spare }
         ensures { DispatchStands self.new (h.now.events ▹ e.now) }
     {
         match *e {

@@ -1,10 +1,12 @@
 //! The pages that the cache holds: the bytes and the causes of each, and how it stands.
-ghost use Rattle.std.specs.Prelude.{◌≡◌, ℕ, ◌+◌, ◌^◌, ◌<◌, ◌≤◌, List, [], map, true, false, IfOk, OnOk};
+ghost use Rattle.std.specs.Prelude.{◌≡◌, ℕ, ◌+◌, ◌^◌, ◌<◌, ◌≤◌, List, [], length, map, false, is_some, IfOk, IfSome, OnOk, true};
+ghost use Rattle.std.specs.Option.{option_map};
 ghost use Rattle.std.specs.List.{flat_map};
-ghost use Rattle.cause_set.specs.Tags.{Tags, held, same};
+ghost use Rattle.cause_set.specs.Tags.{Tags, Moved, held, same, one_use, no_use};
+ghost use Rattle.sim_disk.specs.Bytes.{block_at, spread};
 ghost use Rattle.tag_table.specs.Tags.{tags_of};
-ghost use Rattle.page_cache.specs.Cached.{page_of, is_busy, tags_in, causes_of};
-ghost use Rattle.page_cache.specs.Changes.{IsReady, ChangesEach, taken_among, bytes_in};
+ghost use Rattle.page_cache.specs.Cached.{page_of, is_busy, is_loading, tags_in, causes_of};
+ghost use Rattle.page_cache.specs.Changes.{IsReady, ChangesEach, ChangesOnly, KeepsTouches, taken_among, bytes_in, written};
 ghost use Rattle.split_types.specs.declared.buf.Buf.TheVariants as buf;
 ghost use Rattle.split_types.specs.declared.actor.Actor.{Actor};
 ghost use Rattle.split_types.specs.declared.request.Request.{Request};
@@ -14,23 +16,27 @@ ghost use Rattle.split_types.specs.declared.event.Event.TheVariants as event;
 ghost use Rattle.split_types.specs.History.{◌▹◌};
 ghost use Rattle.split_types.specs.Hooks.{is_among};
 ghost use Rattle.split_types.specs.Parents.{pages_of};
+ghost use Rattle.split_types.specs.Pages.{is_dirty};
 ghost use Rattle.split_types.specs.Sets.{union_of};
 ghost use Rattle.split_types.specs.Accepted.{IsAccepted};
+ghost use Rattle.split_core.specs.Asks.{asks};
 ghost use Rattle.split_core.specs.Fits.{Fits};
 ghost use Rattle.split_core.specs.Givens.{IsGiven};
 ghost use Rattle.split_core.specs.Medium.{MediumStands};
 ghost use Rattle.split_core.specs.Pages.{PagesStand, TagsStand, HasPagesRoom, PagesBefore, PagesAfter, IsDoneOf};
-ghost use Rattle.split_core.specs.Pages.{Releases};
+ghost use Rattle.split_core.specs.Pages.{Releases, Loads, TouchesHeld, Gets};
 ghost use Rattle.split_core.specs.Takings.{IsTaken};
 
+use crate::note::cargo::Cargo;
 use crate::note::medium::Medium;
 use crate::parts::Given;
 use cause_set::{Causes, TagStore};
 use hook_events::History;
 use page_cache::Cache;
+use sim_disk::{Disk, Fills};
 use split_types::{Actor, Buf, Event, Pid, ReqKind, Request, Serial, Workload};
 use std::alloc::{AllocError, Global};
-use tag_table::Table;
+use tag_table::{Table, TableTag};
 
 /// The cache, and the store of its tags.
 #[derive(Drop)]
@@ -38,24 +44,35 @@ pub(crate) struct Pages {
     pub(crate) cache: Cache<Table>,
 }
 
-/// What a request that is added takes: the bytes that it carries, and the processes to blame for it.
+/// What a request that is added takes: what it carries, and the processes to blame for it.
 #[derive(Drop)]
 pub(crate) struct Taken {
-    pub(crate) bytes: Vec<u8>,
+    pub(crate) cargo: Cargo,
     pub(crate) tag: Causes,
 }
 
 impl Taken {
     /// What a request takes that carries nothing.
     fn of(alloc: Global, tag: Causes) -> Taken
-        ensures bytes { result.bytes.items ≡ [] }
+        ensures cargo { result.cargo ≡ [] }
         ensures tag { result.tag ≡ tag }
     {
         Taken {
-            bytes: Vec::new(alloc),
+            cargo: Cargo::of(Vec::new(alloc)),
             tag,
         }
     }
+}
+
+/// Ends the use of a tag, and says whom it had.
+fn let_go(tags: &mut Table, tag: TableTag) -> Causes
+    requires { 1 ≤ (tags_of tags.old).uses tag.number }
+    ensures set { result ≡ (tags_of tags.old).members tag.number }
+    ensures moved { Moved (tags_of tags.old) (tags_of tags.new) (one_use tag.number) no_use }
+{
+    let set = *tags.members(&tag);
+    tags.release(tag);
+    set
 }
 
 impl Pages {
@@ -78,20 +95,116 @@ impl Pages {
         self.cache.room(alloc, 1)
     }
 
-    /// How many pages of a file, at most `most`, are ready one after another from this one on.
-    pub(crate) fn ready_from(&self, serial: Serial, page: u32, most: u32) -> u32
-        requires within { page + most < 2 ^ 32 }
-        ensures most { result ≤ most }
-        ensures ready { (k : ℕ) → k < result → IsReady self.now.cache (buf.Page serial (page + k)) }
-        ensures end { result < most → IsReady self.now.cache (buf.Page serial (page + result)) → ⊥ }
+    /// Whether a page is dirty.
+    pub(crate) fn is_dirty(&self, w: &Workload, h: &History, serial: Serial, page: u32) -> bool
+        requires { (tags : Tags) × PagesStand w.now self.now tags h.now.events }
+        ensures { result ≡ is_dirty w.now h.now.events (buf.Page serial page) }
     {
-        for k in 0..most {
-            match self.cache.find(Buf::Page(serial, page + k)) {
-                Some(state) if state.dirty && !state.busy => {}
-                _ => return k,
-            }
+        match self.cache.find(Buf::Page(serial, page)) {
+            Some(state) => state.dirty,
+            None => false,
         }
-        most
+    }
+
+    /// Whether a page is held.
+    fn holds(&self, b: Buf) -> bool
+        ensures { result ≡ is_some (page_of self.now.cache b) }
+    {
+        self.cache.find(b).is_some()
+    }
+
+    /// Whether a page is busy.
+    fn is_busy(&self, b: Buf) -> bool
+        ensures { result ≡ is_busy (page_of self.now.cache b) }
+    {
+        match self.cache.find(b) {
+            Some(state) => state.busy,
+            None => false,
+        }
+    }
+
+    /// Whether a page is loading.
+    fn is_loading(&self, b: Buf) -> bool
+        ensures { result ≡ is_loading (page_of self.now.cache b) }
+    {
+        match self.cache.find(b) {
+            Some(state) => state.loading,
+            None => false,
+        }
+    }
+
+    /// The bytes that the pages of a run are filled with, where it is known of each that one fills it.
+    fn fills_of(&self, serial: Serial, page: u32, n: u32) -> Option<Fills>
+        requires few { n ≤ 16 }
+        requires within { page + n < 2 ^ 32 }
+        ensures { IfSome result (λ fills. spread fills
+            ≡ flat_map (λ b. bytes_in (page_of self.now.cache b)) (pages_of serial page n)) }
+    {
+        let mut fills = Fills::none();
+        for k in 0..n {
+            fills.push(self.cache.fill_of(Buf::Page(serial, page + k))?);
+        }
+        Some(fills)
+    }
+
+    /// A request takes pages out that are filled with these bytes.
+    fn take_filled(
+        &mut self,
+        tags: &mut Table,
+        serial: Serial,
+        page: u32,
+        n: u32,
+        fills: Fills,
+    ) -> Taken
+        requires some { 1 ≤ n }
+        requires few { n ≤ 16 }
+        requires ready { (k : ℕ) → k < n → IsReady self.old.cache (buf.Page serial (page + k)) }
+        requires tags { TagsStand self.old (tags_of tags.old) }
+        requires room { HasPagesRoom self.old (tags_of tags.old) }
+        requires fills { spread fills
+            ≡ flat_map (λ b. bytes_in (page_of self.old.cache b)) (pages_of serial page n) }
+        ensures cargo { result.cargo ≡ flat_map (λ b. bytes_in (page_of self.old.cache b)) (pages_of serial page n) }
+        ensures set { result.tag
+            ≡ union_of (map (causes_of (tags_of tags.old) self.old.cache) (pages_of serial page n)) }
+        ensures pages { ChangesEach self.old.cache self.new.cache (taken_among serial page n) }
+        ensures causes { (k : _) → is_among serial page n k ≡ false
+            → causes_of (tags_of tags.new) self.new.cache k ≡ causes_of (tags_of tags.old) self.old.cache k }
+        ensures tags { TagsStand self.new (tags_of tags.new) }
+    {
+        let tag = self.cache.take_tag(tags, serial, page, n).unwrap();
+        Taken {
+            cargo: Cargo::filled(fills),
+            tag: let_go(tags, tag),
+        }
+    }
+
+    /// A request takes pages out with each of their bytes.
+    fn take_bytes(
+        &mut self,
+        alloc: Global,
+        tags: &mut Table,
+        serial: Serial,
+        page: u32,
+        n: u32,
+    ) -> Taken
+        requires some { 1 ≤ n }
+        requires few { n ≤ 16 }
+        requires ready { (k : ℕ) → k < n → IsReady self.old.cache (buf.Page serial (page + k)) }
+        requires tags { TagsStand self.old (tags_of tags.old) }
+        requires room { HasPagesRoom self.old (tags_of tags.old) }
+        ensures cargo { result.cargo ≡ flat_map (λ b. bytes_in (page_of self.old.cache b)) (pages_of serial page n) }
+        ensures set { result.tag
+            ≡ union_of (map (causes_of (tags_of tags.old) self.old.cache) (pages_of serial page n)) }
+        ensures pages { ChangesEach self.old.cache self.new.cache (taken_among serial page n) }
+        ensures causes { (k : _) → is_among serial page n k ≡ false
+            → causes_of (tags_of tags.new) self.new.cache k ≡ causes_of (tags_of tags.old) self.old.cache k }
+        ensures tags { TagsStand self.new (tags_of tags.new) }
+    {
+        let (bytes, tag) = self.cache.take_out(alloc, tags, serial, page, n).unwrap();
+        Taken {
+            cargo: Cargo::of(bytes),
+            tag: let_go(tags, tag),
+        }
     }
 
     /// A request takes pages out.
@@ -101,8 +214,8 @@ impl Pages {
         requires ready { (k : ℕ) → k < n → IsReady self.old.cache (buf.Page serial (page + k)) }
         requires tags { TagsStand self.old (tags_of tags.old) }
         requires room { HasPagesRoom self.old (tags_of tags.old) }
-        ensures bytes { result.bytes.items
-            ≡ flat_map (λ b. bytes_in (page_of self.old.cache b)) (pages_of serial page n) }
+        requires within { page + n < 2 ^ 32 }
+        ensures cargo { result.cargo ≡ flat_map (λ b. bytes_in (page_of self.old.cache b)) (pages_of serial page n) }
         ensures set { result.tag
             ≡ union_of (map (causes_of (tags_of tags.old) self.old.cache) (pages_of serial page n)) }
         ensures pages { ChangesEach self.old.cache self.new.cache (taken_among serial page n) }
@@ -110,12 +223,9 @@ impl Pages {
             → causes_of (tags_of tags.new) self.new.cache k ≡ causes_of (tags_of tags.old) self.old.cache k }
         ensures tags { TagsStand self.new (tags_of tags.new) }
     {
-        let (bytes, tag) = self.cache.take_out(alloc, tags, serial, page, n).unwrap();
-        let members = *tags.members(&tag);
-        tags.release(tag);
-        Taken {
-            bytes,
-            tag: members,
+        match self.fills_of(serial, page, n) {
+            Some(fills) => self.take_filled(tags, serial, page, n, fills),
+            None => self.take_bytes(alloc, tags, serial, page, n),
         }
     }
 
@@ -145,15 +255,61 @@ impl Pages {
         }
     }
 
-    /// The pages of a run aren't busy any more.
+    /// A page isn't busy any more, if it was.
+    fn settle(&mut self, b: Buf)
+        ensures page { ChangesOnly self.old.cache self.new.cache b (option_map written (page_of self.old.cache b)) }
+        ensures touches { KeepsTouches self.old.cache self.new.cache }
+    {
+        if self.is_busy(b) {
+            self.cache.written(b);
+        }
+    }
+
+    /// The pages of a run aren't busy any more; those of a file that was dropped weren't held any more.
     fn release(&mut self, serial: Serial, page: u32, n: u32)
-        requires within { page + n < 2 ^ 32 }
-        requires busy { (k : ℕ) → k < n → is_busy (page_of self.old.cache (buf.Page serial (page + k))) ≡ true }
+        requires { page + n < 2 ^ 32 }
         ensures { Releases self.old.cache self.new.cache serial page n }
     {
         for k in 0..n {
-            self.cache.written(Buf::Page(serial, page + k));
+            self.settle(Buf::Page(serial, page + k));
         }
+    }
+
+    /// A page that is loading has the bytes of a block; one of a file that was dropped isn't held any more.
+    fn load(&mut self, b: Buf, disk: &Disk, block: u32)
+        requires { block < length disk.now.blocks }
+        ensures { Loads self.old.cache self.new.cache b (block_at disk.now.blocks block) }
+    {
+        if !self.is_loading(b) {
+            return;
+        }
+        match disk.fill_of(block) {
+            Some(byte) => self.cache.load_filled(b, byte),
+            None => self.cache.load(b, disk.read(block)),
+        }
+    }
+
+    /// Bytes of a page are read, if it is held.
+    fn touch(&mut self, b: Buf, from: u32, to: u32)
+        requires loaded { is_loading (page_of self.old.cache b) ≡ false }
+        requires order { from < to }
+        requires within { to ≤ 4096 }
+        ensures { TouchesHeld self.old.cache self.new.cache b }
+    {
+        if self.holds(b) {
+            let _sum = self.cache.get(b, from, to);
+        }
+    }
+
+    /// Bytes of a page are got; a page without a block needn't be held.
+    fn get(&mut self, by: Pid, b: Buf, from: u32, to: u32)
+        requires loaded { is_loading (page_of self.old.cache b) ≡ false }
+        requires order { from < to }
+        requires within { to ≤ 4096 }
+        ensures { Gets self.old.cache self.new.cache b by }
+    {
+        self.touch(b, from, to);
+        self.cache.unpin(by);
     }
 
     /// A request is done.
@@ -173,8 +329,7 @@ impl Pages {
     {
         match request.kind {
             ReqKind::Read(_, serial, page) => {
-                self.cache
-                    .load(Buf::Page(serial, page), medium.disk.read(request.first));
+                self.load(Buf::Page(serial, page), &medium.disk, request.first);
             }
             ReqKind::Pages(serial, page) => self.release(serial, page, request.n),
             _ => {}
@@ -247,10 +402,8 @@ impl Pages {
                 from,
                 to,
                 ..
-            } => {
-                let _sum = self.cache.get(Buf::Page(serial, page), from, to);
-                self.cache.unpin(by);
-            }
+            } => self.get(by, Buf::Page(serial, page), from, to),
+            Event::Drop { serial, .. } => self.cache.free(tags, serial),
             Event::Ret { by, .. } => self.cache.unpin(by),
             Event::Evict { serial, page, .. } => self.cache.evict(Buf::Page(serial, page)),
             Event::Done { .. } => if let Some(request) = given.request {
@@ -277,7 +430,7 @@ impl Pages {
         requires medium { MediumStands w.now medium.now h.now.events }
         requires fits { Fits w.now h.now.events e.now }
         requires given { IsGiven w.now h.now.events e.now given.now }
-        requires room { HasPagesRoom self.old (tags_of tags.old) }
+        requires room { asks e.now ≡ true → HasPagesRoom self.old (tags_of tags.old) }
         ensures stands { PagesStand w.now self.new (tags_of tags.new) (h.now.events ▹ e.now) }
         ensures tags { TagsStand self.new (tags_of tags.new) }
         ensures taken { IsTaken w.now h.now.events e.now result }

@@ -1,6 +1,5 @@
 -- What a process sees is read from the parts.
-use Rattle.std.proofs.Common.{◌≡◌, ◌≤◌, ◌<◌, ◌∙◌, length, ap, arith, sym, subst, inl, inr}
-use Rattle.std.specs.Prelude.{IfSome}
+use Rattle.std.proofs.Common.{◌≡◌, ◌≤◌, ◌∙◌, length, ap, arith, sym, inl, inr}
 use Rattle.split_types.specs.declared.ids.ReqId.{ReqId}
 use Rattle.split_types.specs.declared.actor.Actor.TheVariants.{Client}
 use Rattle.split_types.specs.Clients.{client_state, next_of_client}
@@ -8,19 +7,9 @@ use Rattle.split_types.specs.Next.{next}
 use Rattle.split_types.specs.History.{adds}
 use Rattle.tag_table.specs.Tags.{tags_of}
 use Rattle.split_core.specs.StandsFor.{Simulation}
-use Rattle.split_core.specs.Clients.{IsProgress}
 use Rattle.split_core.proofs.NextReads.{adds_small}
-use Rattle.split_core.proofs.ClientViews.{seen_from, shows, bound_within, acts, waits, ends, client_next}
+use Rattle.split_core.proofs.ClientViews.{seen_from, shows, acts, waits, ends, client_next}
 use Rattle.split_core.proofs.machine.Core.next_by_view.Goals as goal
-
-pub block_of-requires : goal.block_of-requires
-block_of-requires c =
-    let i = c.self.inside in
-    let x = c.progress-progress.result in
-    subst (λ (v : Simulation). IfSome x.bound (λ s. s.0 < length v.workload.files)) c.self.view_is
-    (bound_within i.workload i.history.events c.args.p.0 x c.self.invariant.accepted c.self.invariant.legal
-    (subst (λ (v : Simulation). IsProgress v.workload v.history c.args.p.0 x) (sym c.self.view_is)
-    c.progress-progress.ensures))
 
 pub overflow_cast-view-2 : goal.overflow_cast-view-2
 overflow_cast-view-2 c =
@@ -39,15 +28,16 @@ returns-in-Act c =
     let h = i.history.events in
     let p = c.args.p in
     let s = client_state w h p in
-    let x = c.progress-progress.result in
+    let x = c.progress.result in
     let id : ReqId = record { 0 = c.len-2.result } in
     let tags = tags_of i.parts.tags in
     let number : id.0 ≡ adds h = omega (arith, c.len-2.ensures, c.self.invariant.parts.book.added) in
-    let seen = seen_from w i.parts.pages tags h p c.len.result c.block_of.result x id c.args.self.now c.self.view_is
-    c.self.invariant.accepted c.self.invariant.legal c.self.invariant.parts.pages c.progress-progress.ensures
-    c.len.ensures c.block_of.ensures number in
+    let run = c.mapped.result in
+    let seen = seen_from w i.parts.pages i.parts.filing tags h p c.len.result run x id c.args.self.now c.self.view_is
+    c.self.invariant.accepted c.self.invariant.legal c.self.invariant.parts.pages c.self.invariant.parts.filing
+    c.progress.ensures c.len.ensures c.mapped.ensures number in
     let is =
-    c.next_of.ensures s (shows w i.parts.pages tags h p c.len.result c.block_of.result x id seen) in
+    c.next_of.ensures s (shows w i.parts.pages i.parts.filing tags h p c.len.result run x id seen) in
     let last : p.0 ≤ length w.procs =
     omega (arith, c.requires.last, ap (λ (v : Simulation). length v.workload.procs) c.self.view_is) in
     sym (client_next w h p c.requires.first last ∙ acts (next_of_client s) s.call c.in-Act.e (sym is ∙ c.in-Act.is))
@@ -60,15 +50,16 @@ returns-in-Nothing c =
     let h = i.history.events in
     let p = c.args.p in
     let s = client_state w h p in
-    let x = c.progress-progress.result in
+    let x = c.progress.result in
     let id : ReqId = record { 0 = c.len-2.result } in
     let tags = tags_of i.parts.tags in
     let number : id.0 ≡ adds h = omega (arith, c.len-2.ensures, c.self.invariant.parts.book.added) in
-    let seen = seen_from w i.parts.pages tags h p c.len.result c.block_of.result x id c.args.self.now c.self.view_is
-    c.self.invariant.accepted c.self.invariant.legal c.self.invariant.parts.pages c.progress-progress.ensures
-    c.len.ensures c.block_of.ensures number in
+    let run = c.mapped.result in
+    let seen = seen_from w i.parts.pages i.parts.filing tags h p c.len.result run x id c.args.self.now c.self.view_is
+    c.self.invariant.accepted c.self.invariant.legal c.self.invariant.parts.pages c.self.invariant.parts.filing
+    c.progress.ensures c.len.ensures c.mapped.ensures number in
     let is =
-    c.next_of.ensures s (shows w i.parts.pages tags h p c.len.result c.block_of.result x id seen) in
+    c.next_of.ensures s (shows w i.parts.pages i.parts.filing tags h p c.len.result run x id seen) in
     let last : p.0 ≤ length w.procs =
     omega (arith, c.requires.last, ap (λ (v : Simulation). length v.workload.procs) c.self.view_is) in
     sym (client_next w h p c.requires.first last ∙ elim c.in-Nothing.is [

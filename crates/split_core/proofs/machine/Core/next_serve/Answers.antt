@@ -1,49 +1,24 @@
--- The first page that is ready, and the run from there on.
-use Rattle.std.proofs.Common.{arith, ◌∙◌, ap}
-use Rattle.split_types.specs.Writeback.{next_serve}
-use Rattle.tag_table.specs.Tags.{tags_of}
+-- The run that the cache and the files say is served next.
+use Rattle.std.proofs.Common.{◌∙◌, ap, Some, None}
+use Rattle.split_types.specs.Serving.{next_serve}
 use Rattle.split_core.specs.StandsFor.{Simulation}
-use Rattle.split_core.proofs.NextReads.{pages_are}
-use Rattle.split_core.proofs.NextReadsServes.{first_is_page, found_at, serves, serves_none}
+use Rattle.split_core.proofs.NextReadsServes.{may_serve, serve_is}
 use Rattle.split_core.proofs.machine.Core.next_serve.Goals as goal
 
-pub returns-in_err-serial : goal.returns-in_err-serial
-returns-in_err-serial c =
+pub next_service-requires : goal.next_service-requires
+next_service-requires c =
+    let i = c.self.inside in
+    may_serve i.workload i.plan i.parts i.history.events c.self.invariant
+
+pub returns-in_err-run : goal.returns-in_err-run
+returns-in_err-run c =
     let i = c.self.inside in
     c.from_residual.ensures
-    ∙ serves_none i.workload i.parts.pages (tags_of i.parts.tags) i.history.events c.self.invariant.parts.pages
-    c.in_err-serial.ensures.none
+    ∙ serve_is i.workload i.plan i.parts i.history.events None c.self.invariant c.in_err-run.ensures
     ∙ ap (λ (v : Simulation). next_serve v.workload v.history) c.self.view_is
-
-pub returns-in_default : goal.returns-in_default
-returns-in_default c =
-    let page = first_is_page c.self.inside.parts.pages.cache c.in_ok-serial.field-0 c.in_ok-serial.ensures.first in
-    absurd (c.in_default.not-Page page.0 page.1 page.2)
-
-pub at-requires : goal.at-requires
-at-requires c =
-    let i = c.self.inside in
-    (found_at i.workload i.parts.pages (tags_of i.parts.tags) i.history.events c.in_ok-serial.field-0 c.in-Page.serial
-    c.in-Page.page c.self.invariant.accepted c.self.invariant.legal c.self.invariant.parts.pages
-    c.in_ok-serial.ensures.first c.in-Page.is).file
-
-pub overflow_sub-left : goal.overflow_sub-left
-overflow_sub-left c =
-    let i = c.self.inside in
-    let found = found_at i.workload i.parts.pages (tags_of i.parts.tags) i.history.events c.in_ok-serial.field-0
-    c.in-Page.serial c.in-Page.page c.self.invariant.accepted c.self.invariant.legal c.self.invariant.parts.pages
-    c.in_ok-serial.ensures.first c.in-Page.is in
-    omega (arith, found.page, pages_are i.workload c.in-Page.serial.0 c.at.result.now c.at.ensures)
 
 pub returns : goal.returns
 returns c =
     let i = c.self.inside in
-    let stands = c.self.invariant.parts.pages in
-    let found = found_at i.workload i.parts.pages (tags_of i.parts.tags) i.history.events c.in_ok-serial.field-0
-    c.in-Page.serial c.in-Page.page c.self.invariant.accepted c.self.invariant.legal stands
-    c.in_ok-serial.ensures.first c.in-Page.is in
-    let pages = pages_are i.workload c.in-Page.serial.0 c.at.result.now c.at.ensures in
-    serves i.workload i.parts.pages (tags_of i.parts.tags) i.history.events c.in-Page.serial c.in-Page.page
-    c.ready_from.result stands found (omega (arith, pages, c.min.ensures, c.ready_from.ensures.most))
-    c.ready_from.ensures.ready (λ lt. c.ready_from.ensures.end (omega (arith, lt, pages, c.min.ensures)))
+    serve_is i.workload i.plan i.parts i.history.events (Some c.in_ok-run.run') c.self.invariant c.in_ok-run.ensures
     ∙ ap (λ (v : Simulation). next_serve v.workload v.history) c.self.view_is

@@ -1,34 +1,8 @@
--- Each file's pages stand behind those of the files before it.
-use Rattle.std.proofs.Common.{◌≡◌, length, slice_get, slice_index_or, Some, arith, ap, ◌∙◌}
-use Rattle.split_core.proofs.MediumNotesLists.{read_at}
-use Rattle.split_core.proofs.MediumNotesStart.{next_within, filled_next, all_filled}
+-- A new disk has zeros alone.
+use Rattle.split_core.proofs.MediumNotesStart.{zeros_are}
 use Rattle.split_core.proofs.note.medium.disk_of.Goals as goal
 
-pub fill-requires : goal.fill-requires
-fill-requires c =
-    let files = c.args.w.now.files
-    in let n = c.loop-file.file-index
-    in let at : slice_get files n ≡ Some c.file-item.result =
-    read_at files n c.file-item.result (omega (arith, c.loop-file-test.true, ap length c.as_slice-file-items.ensures))
-    (c.file-item.is ∙ ap (λ l. slice_index_or l n c.file-item.result) c.as_slice-file-items.ensures)
-    in omega (
-      arith,
-      c.loop-file.invariant.size,
-      next_within c.args.w.now c.loop-file.disk c.loop-file.block n c.file-item.result c.requires c.loop-file.invariant
-          at,
-    )
-
-pub loop-file-preserved : goal.loop-file-preserved
-loop-file-preserved c =
-    let files = c.args.w.now.files
-    in let n = c.loop-file.file-index
-    in let at : slice_get files n ≡ Some c.file-item.result =
-    read_at files n c.file-item.result (omega (arith, c.loop-file-test.true, ap length c.as_slice-file-items.ensures))
-    (c.file-item.is ∙ ap (λ l. slice_index_or l n c.file-item.result) c.as_slice-file-items.ensures)
-    in filled_next c.args.w.now c.loop-file.disk c.fill.new.self c.loop-file.block n c.file-item.result
-    c.loop-file.invariant at c.in_ok-fill.ensures.blocks (ap (λ d. d.writes) c.in_ok-fill.ensures.rest)
-
-pub returns : goal.returns
-returns c =
-    all_filled c.args.w.now c.loop-file.disk c.loop-file.block c.loop-file.file-index c.requires c.loop-file.invariant
-    (omega (arith, c.loop-file-test.false, ap length c.as_slice-file-items.ensures))
+pub write_metadata-requires-clause-zeros : goal.write_metadata-requires-clause-zeros
+write_metadata-requires-clause-zeros c =
+    zeros_are c.args.w.now c.in_ok-disk.disk c.in_ok-disk.ensures.size c.in_ok-disk.ensures.writes
+    c.in_ok-disk.ensures.zeros

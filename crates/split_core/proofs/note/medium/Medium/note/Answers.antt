@@ -1,11 +1,12 @@
 -- A write that is added is carried, one that is sent starts, and one that is done is finished.
-use Rattle.std.proofs.Common.{◌≡◌, [], ◌∷◌, ◌++◌, slice_get, true, Some, refl, subst, sym, ap, ◌∙◌}
+use Rattle.std.proofs.Common.{◌≡◌, slice_get, true, Some, refl, subst, sym, ap, ◌∙◌}
 use Rattle.split_types.specs.declared.event.Event.TheVariants.{Done}
 use Rattle.split_types.specs.History.{◌▹◌}
 use Rattle.split_types.specs.Legal.{IsLegal}
 use Rattle.split_types.specs.Requests as requests
 use Rattle.split_types.proofs.Shared.{is_done}
 use Rattle.split_core.specs.declared.note.medium.Medium.{Medium}
+use Rattle.split_core.specs.Asks.{asks}
 use Rattle.split_core.specs.Medium.{MediumStands}
 use Rattle.split_core.proofs.MediumNotes.{medium_kept, medium_add_read, medium_add_write}
 use Rattle.split_core.proofs.MediumNotesSends.{given_is, starts, medium_send_read, medium_send_given}
@@ -16,12 +17,11 @@ use Rattle.split_core.proofs.note.medium.Medium.note.Goals as goal
 pub returns-then-is_write : goal.returns-then-is_write
 returns-then-is_write c =
     let legal = rw c.in-Add.is at c.requires.fits.legal
-    in let brings = rw c.in-Add.is at c.requires.bytes
+    in let brings = rw c.in-Add.is at c.requires.cargo
     in let writing : requests.is_write c.in-Add.req ≡ true = sym c.is_write.ensures ∙ c.if-is_write.true
     in rw c.in-Add.is (medium_add_write c.args.w.now c.args.h.now.events c.in-Add.by c.in-Add.req c.args.self.now _
-    c.args.bytes.items c.requires.accepted legal c.requires.stands writing (brings writing) refl
-    (c.push_back_reserved.ensures.items
-    ∙ ap (λ bytes. c.args.self.now.carried.items ++ bytes ∷ []) c.of.ensures))
+    c.args.cargo c.requires.accepted legal c.requires.stands writing (brings writing) refl
+    c.push_back_reserved.ensures.items)
 
 pub returns-in-Add : goal.returns-in-Add
 returns-in-Add c =
@@ -38,12 +38,16 @@ start-requires c =
     in let id = c.in-Send.id
     in let r = c.in-Some.request
     in let same : fits.request ≡ r = given_is w h id c.in-Send.cost r c.args.given.now.request fits given c.in-Some.is
-    in let may = starts w h id c.in-Send.cost c.args.self.now r c.into_bytes-bytes.result.items
+    in let may = starts w h id c.in-Send.cost c.args.self.now r c.in-Some-pop_front.cargo
     c.pop_front.new.self.items c.requires.accepted c.requires.fits.legal.1 fits c.requires.stands
-    same (sym c.is_write-in-Send.ensures ∙ c.if-is_write-2.true)
-    (c.in-Some-pop_front.ensures.items
-    ∙ ap (λ bytes. bytes ∷ c.pop_front.new.self.items) (sym c.into_bytes-bytes.ensures))
-    in record { whole = may.whole; within = may.within; apart = may.apart; other = may.other }
+    same (sym c.is_write-in-Send.ensures ∙ c.if-is_write-2.true) c.in-Some-pop_front.ensures.items
+    in record {
+      whole = may.whole;
+      within = may.within;
+      apart = may.apart;
+      other = may.other;
+      room = (c.requires.room (ap asks c.in-Send.is)).disk;
+    }
 
 pub returns-in-Some-pop_front : goal.returns-in-Some-pop_front
 returns-in-Some-pop_front c =
@@ -54,18 +58,11 @@ returns-in-Some-pop_front c =
     in let id = c.in-Send.id
     in let r = c.in-Some.request
     in let same : fits.request ≡ r = given_is w h id c.in-Send.cost r c.args.given.now.request fits given c.in-Some.is
-    in let new : Medium = record {
-      disk = c.start.new.self;
-      carried = c.pop_front.new.self;
-      spare = c.into_bytes-bytes.new.spare;
-    }
-    in rw c.in-Send.is (medium_send_given w h id c.in-Send.cost c.args.self.now new r c.into_bytes-bytes.result.items
+    in let new : Medium = record { disk = c.start.new.disk; carried = c.pop_front.new.self }
+    in rw c.in-Send.is (medium_send_given w h id c.in-Send.cost c.args.self.now new r c.in-Some-pop_front.cargo
     c.requires.accepted c.requires.fits.legal.1 fits c.requires.stands same
-    (sym c.is_write-in-Send.ensures ∙ c.if-is_write-2.true)
-    (c.in-Some-pop_front.ensures.items
-    ∙ ap (λ bytes. bytes ∷ c.pop_front.new.self.items) (sym c.into_bytes-bytes.ensures))
-    (rw c.unwrap.ensures at c.start.ensures.blocks)
-    (rw c.unwrap.ensures at c.start.ensures.writes))
+    (sym c.is_write-in-Send.ensures ∙ c.if-is_write-2.true) c.in-Some-pop_front.ensures.items c.start.ensures.blocks
+    c.start.ensures.writes)
 
 pub returns-in-Send-2 : goal.returns-in-Send-2
 returns-in-Send-2 c =
@@ -133,11 +130,7 @@ returns-in-Done c =
     in let r = c.in-Some-request.request
     in let legal : IsLegal w (h ▹ Done k id true) = subst (λ b. IsLegal w (h ▹ Done k id b)) fits.ok_is all
     in let at : slice_get (requests.requests h) id.0 ≡ Some r = sym given.request_is ∙ c.in-Some-request.is
-    in let new : Medium = record {
-      disk = c.finish.new.self;
-      carried = c.args.self.now.carried;
-      spare = c.args.self.now.spare;
-    }
+    in let new : Medium = record { disk = c.finish.new.self; carried = c.args.self.now.carried }
     in rw c.in-Done.is (subst (λ b. MediumStands w new (h ▹ Done k id b)) (sym fits.ok_is)
     (medium_done_write w h k id r c.args.self.now new c.requires.accepted legal c.requires.stands at
     (sym c.is_write-in-Done.ensures ∙ c.if-is_write-3.true)

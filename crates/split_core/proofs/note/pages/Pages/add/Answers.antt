@@ -1,5 +1,5 @@
 -- A request takes pages out, or lets one load.
-use Rattle.std.proofs.Common.{is_ok, ap, ◌∙◌}
+use Rattle.std.proofs.Common.{is_ok, refl, ap, ◌∙◌}
 use Rattle.tag_table.specs.Tags.{tags_of}
 use Rattle.split_core.proofs.PageTags.{on_ok}
 use Rattle.split_core.proofs.PageAdds.{load_of, after_load, taken_load}
@@ -22,7 +22,14 @@ pub take-requires : goal.take-requires
 take-requires c =
     let of = run_of c.args.w.now c.args.h.now.events c.args.by c.args.request.now c.in-Pages.serial c.in-Pages.page
     c.args.self.now (tags_of c.args.tags.now) c.requires c.in-Pages.is
-    in record { some = of.some; few = of.few; ready = of.ready; tags = c.requires.tags; room = c.requires.room }
+    in record {
+      some = of.some;
+      few = of.few;
+      ready = of.ready;
+      tags = c.requires.tags;
+      room = c.requires.room refl;
+      within = of.within;
+    }
 
 pub returns-in-Read : goal.returns-in-Read
 returns-in-Read c =
@@ -43,5 +50,5 @@ returns-in-Pages c =
           c.take.ensures.pages c.take.ensures.causes c.take.ensures.tags;
       taken = taken_run c.args.w.now c.args.h.now.events c.args.by c.args.request.now c.in-Pages.serial
           c.in-Pages.page c.args.self.now (tags_of c.args.tags.now) c.take.result c.requires c.in-Pages.is
-          c.take.ensures.bytes c.take.ensures.set;
+          c.take.ensures.cargo c.take.ensures.set;
     }

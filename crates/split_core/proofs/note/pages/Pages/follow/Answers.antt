@@ -1,19 +1,35 @@
 -- What stands after each kind of event.
 use Rattle.tag_table.specs.Tags.{tags_of}
-use Rattle.split_core.proofs.PageKinds.{after_ret, after_get, evicts, after_evict}
+use Rattle.std.proofs.Common.{arith}
+use Rattle.split_core.proofs.PageKinds.{after_ret, get_loaded, after_get, after_drop, evicts, after_evict}
 use Rattle.split_core.proofs.PageQuiet.{pages_other}
 use Rattle.split_core.proofs.note.pages.Pages.follow.Goals as goal
 
 pub returns-in-Ret : goal.returns-in-Ret
 returns-in-Ret c =
     after_ret c.args.w.now c.args.h.now.events c.args.e.now c.in-Ret.by c.in-Ret.reply c.args.self.now _
-    (tags_of c.args.tags.now) c.in-Ret.is c.requires.before c.unpin-in-Ret.ensures.pages c.unpin-in-Ret.ensures.tags
+    (tags_of c.args.tags.now) c.in-Ret.is c.requires.before c.unpin.ensures.pages c.unpin.ensures.tags
+
+pub get-requires : goal.get-requires
+get-requires c =
+    let known = get_loaded c.args.w.now c.args.h.now.events c.args.e.now c.in-Get.by c.in-Get.serial c.in-Get.page
+    c.in-Get.from c.in-Get.to c.in-Get.sum c.args.self.now (tags_of c.args.tags.now) c.in-Get.is c.requires.before
+    in record { loaded = known.0; order = known.1; within = known.2 }
 
 pub returns-in-Get : goal.returns-in-Get
 returns-in-Get c =
     after_get c.args.w.now c.args.h.now.events c.args.e.now c.in-Get.by c.in-Get.serial c.in-Get.page c.in-Get.from
-    c.in-Get.to c.in-Get.sum c.args.self.now _ c.get-sum.new.self (tags_of c.args.tags.now) c.in-Get.is
-    c.requires.before c.get-sum.ensures.rest c.get-sum.ensures.touched c.unpin.ensures.pages c.unpin.ensures.tags
+    c.in-Get.to c.in-Get.sum c.args.self.now c.get.new.self (tags_of c.args.tags.now) c.in-Get.is c.requires.before
+    c.get.ensures
+
+pub free-requires : goal.free-requires
+free-requires c = λ n. omega (arith, c.requires.before.tags n)
+
+pub returns-in-Drop : goal.returns-in-Drop
+returns-in-Drop c =
+    after_drop c.args.w.now c.args.h.now.events c.args.e.now c.in-Drop.by c.in-Drop.slot c.in-Drop.serial
+    c.args.self.now _ (tags_of c.args.tags.now) (tags_of c.free.new.tags) c.in-Drop.is c.requires.before
+    c.free.ensures.pages c.free.ensures.moved
 
 pub evict-requires : goal.evict-requires
 evict-requires c =
@@ -32,6 +48,6 @@ returns-in_default c =
     in record {
       stands = pages_other c.args.w.now c.args.h.now.events c.args.e.now c.args.self.now.cache
           (tags_of c.args.tags.now) b.accepted b.fits.legal b.fits.kind c.in_default.not-Put c.in_default.not-Get
-          c.in_default.not-Ret c.in_default.not-Evict c.requires.other c.in_default.not-Done b.stands;
+          c.in_default.not-Drop c.in_default.not-Ret c.in_default.not-Evict c.requires.other c.in_default.not-Done b.stands;
       tags = b.tags;
     }

@@ -9,7 +9,8 @@ pub returns : goal.returns
 returns c =
     let fits = c.requires.fits
     in let client = fits.by c.args.by refl
-    in let made = c.write.ensures.succeeds c.requires.room.cache (omega (arith, c.requires.room.tags))
+    in let room = c.requires.room refl
+    in let made = c.write.ensures.succeeds room.cache (omega (arith, room.tags))
     in record {
       stands = pages_put c.args.w.now c.args.h.now.events c.args.by c.args.serial c.args.page c.args.from c.args.to
           c.args.fill c.args.self.now.cache c.write.new.self c.unpin.new.self (tags_of c.args.tags.now)
