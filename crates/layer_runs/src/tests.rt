@@ -14,6 +14,7 @@ mod next_events;
 mod places;
 mod proxy_causes;
 mod request_queue;
+mod served_runs;
 mod shared_tags;
 mod transactions;
 

@@ -1,7 +1,7 @@
 ghost use Rattle.std.specs.Prelude.{◌≡◌, ◌<◌, IsTrue, IfOk};
 ghost use Rattle.split_types.specs.History.{adds};
 
-use super::texts::ONE;
+use super::texts::{FILES, ONE};
 use hook_events::Steps;
 use split_core::{Core, Step};
 use split_types::{Actor, Event, Pid, ReqId};
@@ -11,9 +11,9 @@ use std::sync::ledger::{Blank, Ledger};
 use std::test::Fail;
 use workload_reader::read_workload;
 
-/// A workload of one call, before any event.
-fn before_any_event(alloc: Global) -> Result<Core, AllocError> {
-    match read_workload(alloc, ONE.as_bytes()) {
+/// A workload, before any event.
+fn before_any_event(alloc: Global, text: &str) -> Result<Core, AllocError> {
+    match read_workload(alloc, text.as_bytes()) {
         Ok(workload) => Core::new(alloc, workload),
         Err(_fault) => Err(AllocError),
     }
@@ -66,7 +66,7 @@ fn seen<L: Ledger>(alloc: Global, blank: Blank) -> Result<(Step, u32, bool, u32)
     requires some { 0 < L.parts }
 {
     let mut steps: Steps<L> = Steps::new(blank);
-    let mut core = before_any_event(alloc)?;
+    let mut core = before_any_event(alloc, ONE)?;
     stepped(&mut core, &mut steps)
 }
 
@@ -82,14 +82,39 @@ fn finished<L: Ledger>(
     Ok((facts.clock, core.workload().version))
 }
 
-/// How many blocks the disk of a new core has.
-fn blocks(alloc: Global) -> Result<u32, AllocError> {
-    Ok(before_any_event(alloc)?.disk().blocks())
+/// Whether a block of a core's disk has these bytes from a place on.
+fn has(core: &Core, block: u32, from: usize, bytes: &[u8]) -> bool {
+    let disk = core.disk();
+    if block >= disk.blocks() {
+        return false;
+    }
+    match disk.read(block).get(from..) {
+        Some(rest) => rest.starts_with(bytes),
+        None => false,
+    }
 }
 
+/// The superblock, the bitmap, the directory, the inode of the first slot and the first block of data, where the disk
+/// has 1,024 blocks and a file `a` of one page is there: bytes from a place of a block on.
+const AT_THE_START: [(u32, usize, &[u8]); 6] = [
+    (0, 0, b"SPLITFS1\x01\0\0\0\0\x04\0\0\0\0"),
+    (1, 64, b"\xff\x7f\0\0"),
+    (2, 0, b"\x01\0\0\0\x01a\0\0"),
+    (6, 0, b"\x01\0\0\0\0\x10\0\0\0\0"),
+    (6, 64, b"\x0e\x02\0\0\0\0"),
+    (526, 4092, b"AAAA"),
+];
+
 #[test]
-fn a_core_has_a_disk(rt: HostRuntime) -> Result<(), Fail> {
-    assert_eq!(rt; blocks(rt.alloc())?, 1024);
+fn a_disk_has_metadata_and_pages_at_the_start(rt: HostRuntime) -> Result<(), Fail> {
+    let core = before_any_event(rt.alloc(), ONE)?;
+    assert_eq!(rt; core.disk().blocks(), 1024);
+    for (block, from, bytes) in AT_THE_START {
+        assert!(rt;
+            has(&core, block, from, bytes),
+            "block {block} from {from} on"
+        );
+    }
     Ok(())
 }
 
@@ -100,7 +125,7 @@ fn played<L: Ledger>(alloc: Global, blank: Blank) -> Result<(u64, u32), AllocErr
     requires some { 0 < L.parts }
 {
     let mut steps: Steps<L> = Steps::new(blank);
-    let mut core = before_any_event(alloc)?;
+    let mut core = before_any_event(alloc, ONE)?;
     finished(alloc, &mut core, &mut steps)
 }
 
@@ -108,6 +133,24 @@ fn played<L: Ledger>(alloc: Global, blank: Blank) -> Result<(u64, u32), AllocErr
 fn a_workload_is_played_and_drained(rt: HostRuntime) -> Result<(), Fail> {
     let shown = played::<Brand>(rt.alloc(), Blank::new(1))?;
     assert_eq!(rt; shown, (52, 1));
+    Ok(())
+}
+
+/// The same, of a new core that makes and drops files.
+fn played_with_files<L: Ledger>(alloc: Global, blank: Blank) -> Result<(u64, u32), AllocError>
+    requires name { blank.name ≡ L.name }
+    requires parts { blank.parts ≡ L.parts }
+    requires some { 0 < L.parts }
+{
+    let mut steps: Steps<L> = Steps::new(blank);
+    let mut core = before_any_event(alloc, FILES)?;
+    finished(alloc, &mut core, &mut steps)
+}
+
+#[test]
+fn files_are_made_and_dropped(rt: HostRuntime) -> Result<(), Fail> {
+    let shown = played_with_files::<Brand>(rt.alloc(), Blank::new(1))?;
+    assert_eq!(rt; shown, (102, 2));
     Ok(())
 }
 

@@ -10,6 +10,14 @@ pub(super) const ONE: &str =
     "splitload 1\ndevice 1024\ncache 64\ndepth 1\nsched fifo\naccount 1 0 0\nproc 1 1 0\n\
     file a 1 65\ncall 1 write a 0 4096 66\ngo c1 1\ngo wb 1\nend\n";
 
+/// A text of version 2. A file is made, and written behind a hole until no block is left; the hole is read as zeros; a
+/// write is too big. Another file is dropped while writeback serves it.
+pub(super) const FILES: &str =
+    "splitload 2\ndevice 2048\ncache 64\ndepth 1\nsched fifo\naccount 1 0 0\nproc 1 1 0\nproc 1 1 0\n\
+    file draft 0 0\nfile full 729 65\ncall 1 creat log\ncall 1 write log 8192 8192 67\n\
+    call 1 read log 4096 8192\ncall 1 write log 4128768 1 67\ncall 2 write draft 0 4096 66\n\
+    call 2 unlink draft\ngo c2 4\ngo wb 1\ngo c2 4\ngo wb 1\nend\n";
+
 /// The text of the workload that is made from 0, up to its first call.
 const MADE: &str =
     "splitload 1\ndevice 32768\ncache 1024\ndepth 4\nsched token\naccount 100 10000 10000\n\

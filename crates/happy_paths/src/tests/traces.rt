@@ -217,7 +217,7 @@ evict c1 0 4294967296
 tick tk 18446744073709551616";
 
 /// Texts of which a line is refused: the line, the cause, and the texts, between which a bar stands.
-const FRONTS: [(u32, Cause, &str); 8] = [
+const FRONTS: [(u32, Cause, &str); 11] = [
     (1, Cause::Cut, "|splittrace 1|\0"),
     (
         1,
@@ -232,16 +232,27 @@ const FRONTS: [(u32, Cause, &str); 8] = [
         "splittrace 2\nsplitload 1\n|splittrace 2\nsplitload 2\n|splittrace 1\nsplitload 3\n|\
         splittrace 1\nsplitload 4\n|splittrace 1\nsplittrace 1\n",
     ),
-    (3, Cause::Range, "splittrace 1\nsplitload 1\ndevice 1023\n"),
+    (
+        3,
+        Cause::Range,
+        "splittrace 1\nsplitload 1\ndevice 1023\n|splittrace 1\nsplitload 2\ndevice 2047\n",
+    ),
     (
         4,
         Cause::Form,
         "splittrace 1\nsplitload 1\ndevice 1024\ncache 2 \n",
     ),
+    (2, Cause::NotBuilt, "splittrace 2\nsplitload 3\n"),
+    (3, Cause::Cut, "splittrace 1\nsplitload 2\n"),
     (
-        2,
-        Cause::NotBuilt,
-        "splittrace 1\nsplitload 2\n|splittrace 2\nsplitload 3\n",
+        7,
+        Cause::Space,
+        "splittrace 1\nsplitload 2\ndevice 2048\ncache 2\ndepth 1\nsched fifo\nfile a 731 0\n",
+    ),
+    (
+        8,
+        Cause::Cut,
+        "splittrace 1\nsplitload 2\ndevice 2048\ncache 2\ndepth 1\nsched fifo\nfile a 730 0\n",
     ),
     (
         5,
@@ -251,7 +262,7 @@ const FRONTS: [(u32, Cause, &str); 8] = [
 ];
 
 /// What may not stand behind the front of a workload.
-const BEHIND: [(u32, Cause, &str); 15] = [
+const BEHIND: [(u32, Cause, &str); 16] = [
     (7, Cause::Ref, "proc 1 1 0\n|go c1 1\n"),
     (9, Cause::Limit, "account 1 0 0\nproc 1 1 0\nproc 1 1 0\n"),
     (8, Cause::Name, "file a 0 0\nfile a 0 0\n"),
@@ -260,6 +271,11 @@ const BEHIND: [(u32, Cause, &str); 15] = [
     (7, Cause::Form, "events 0\n"),
     (7, Cause::Cut, "end"),
     (7, Cause::NotBuilt, "fail 0\n"),
+    (
+        9,
+        Cause::NotBuilt,
+        "account 1 0 0\nproc 1 1 0\ncall 1 fsync a\n",
+    ),
     (
         8,
         Cause::Cut,
@@ -301,6 +317,8 @@ const BEHIND: [(u32, Cause, &str); 15] = [
 
 /// What may stand behind it.
 const WHOLE: &str = "end\nevents 0\n|\
+    account 1 0 0\nproc 1 1 0\ncall 1 creat a\ncall 1 write a 4095 2 7\ncall 1 read a 0 9\n\
+    call 1 unlink a\nend\nevents 0\n|\
     end\nevents 0\n\0|\
     end\nevents 0\nevents 0\n|\
     end\nevents 1\nskip wb\nskip wb\n|\

@@ -78,6 +78,25 @@ fn a_page_is_taken_out(rt: HostRuntime) -> Result<(), Fail> {
     Ok(())
 }
 
+/// The byte that a page is known to have at each place of which only some were written, and which page is dirty when a
+/// tag of that one is taken out.
+fn tag_taken<S: TagStore>(
+    alloc: Global,
+    tags: &mut S,
+) -> Result<(Option<u8>, Option<Buf>), AllocError> {
+    let mut cache = one_page(alloc, tags, Serial(0))?;
+    let tag = cache.take_tag(tags, Serial(0), 3, 1)?;
+    tags.release(tag);
+    Ok((cache.fill_of(Buf::Page(Serial(0), 3)), cache.first_dirty()))
+}
+
+#[test]
+fn a_tag_is_taken_out(rt: HostRuntime) -> Result<(), Fail> {
+    let mut tags = PlainTags::new(rt.alloc())?;
+    assert_eq!(rt; tag_taken(rt.alloc(), &mut tags)?, (None, None));
+    Ok(())
+}
+
 /// A cache of two places in which a page is loading.
 fn loading_page(alloc: Global, b: Buf) -> Result<Cache<PlainTags>, AllocError>
     requires { IsDataPage b }
@@ -94,6 +113,15 @@ fn a_page_is_loaded(rt: HostRuntime) -> Result<(), Fail> {
     let mut cache = loading_page(rt.alloc(), b)?;
     cache.load(b, &[9; 4096]);
     assert_eq!(rt; cache.peek_sum(b, 1, 4), 27);
+    Ok(())
+}
+
+#[test]
+fn a_page_of_one_byte_is_loaded(rt: HostRuntime) -> Result<(), Fail> {
+    let b = Buf::Page(Serial(1), 0);
+    let mut cache = loading_page(rt.alloc(), b)?;
+    cache.load_filled(b, 9);
+    assert_eq!(rt; (cache.fill_of(b), cache.peek_sum(b, 1, 4)), (Some(9), 27));
     Ok(())
 }
 

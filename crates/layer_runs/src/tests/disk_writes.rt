@@ -2,7 +2,7 @@
 ghost use Rattle.std.specs.Prelude.{◌≡◌, [], ◌∷◌, IfOk, vec_len};
 ghost use Rattle.sim_disk.specs.declared.disk.crash.Fate.TheVariants.{Old, New};
 
-use sim_disk::{Disk, Fate};
+use sim_disk::{Disk, Fate, Fills};
 use split_types::ReqId;
 use std::alloc::{AllocError, Global};
 use std::test::Fail;
@@ -41,5 +41,19 @@ fn writes_and_crashes(rt: HostRuntime) -> Result<(), Fail> {
     let finished = (disk.read(4)[1], disk.read(5)[0]);
     assert_eq!(rt; (started, unwritten), ((8, 2), (0, 65)));
     assert_eq!(rt; (left, crashed, finished), ((0, 0), (9, 65), (7, 9)));
+    Ok(())
+}
+
+#[test]
+fn fills_blocks(rt: HostRuntime) -> Result<(), Fail> {
+    let mut disk = Disk::new(rt.alloc(), 8)?;
+    let mut fills = Fills::none();
+    fills.push(65);
+    fills.push(66);
+    disk.start_filled(ReqId(3), 4, fills)?;
+    let before = disk.fill_of(5);
+    disk.finish(ReqId(3), true);
+    let after = (disk.fill_of(4), disk.fill_of(5), disk.read(5)[4095]);
+    assert_eq!(rt; (before, after), (Some(0), (Some(65), Some(66), 66)));
     Ok(())
 }

@@ -43,12 +43,13 @@ fn presets_are_there(rt: HostRuntime) -> Result<(), Fail> {
 }
 
 #[test]
-fn presets_have_sizes_and_blocks(rt: HostRuntime) -> Result<(), Fail> {
+fn presets_have_serials_sizes_and_blocks(rt: HostRuntime) -> Result<(), Fail> {
     let a = name(b'a')?;
     let fs = one_file(rt.alloc(), a)?;
     let slot = found(fs.find(&a))?;
-    let seen = (fs.size_of(slot), fs.disk_size_of(slot), fs.map_of(slot, 1));
-    assert_eq!(rt; seen, (8192, 8192, Some(527)));
+    let sizes = (fs.size_of(slot), fs.disk_size_of(slot));
+    let seen = (fs.serial_of(slot), sizes, fs.map_of(slot, 1));
+    assert_eq!(rt; seen, (Serial(0), (8192, 8192), Some(527)));
     Ok(())
 }
 

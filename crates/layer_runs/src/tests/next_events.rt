@@ -1,22 +1,23 @@
 //! What a process does next.
 use cause_set::PlainTags;
 use client_calls::{ClientNext, ClientView, Piece, Progress, next_of, piece_left};
+use delayed_alloc::Alloc;
 use page_cache::Cache;
-use split_types::{Call, Event, Name, Pid, ReqId, ReqKind, Serial};
+use small_fs::Fs;
+use split_types::{
+    Actor, Call, Event, Name, Pid, Preset, Reply, ReqId, ReqKind, Request, Serial, Slot,
+};
 use std::alloc::{AllocError, Global};
 use std::test::Fail;
 
-/// An admitted read of 8,192 bytes from byte 100 on, in a file of three pages.
-fn reading(name: Name) -> Progress {
+/// A call that is admitted, on a file of three pages, before its first piece.
+fn admitted(call: Call) -> Progress {
     Progress {
-        call: Some(Call::Read {
-            name,
-            off: 100,
-            len: 8192,
-        }),
+        call: Some(call),
         number: 0,
         entered: true,
         admitted: true,
+        acted: false,
         bound: Some(Serial(0)),
         size_at_admit: 12288,
         moved: 0,
@@ -25,39 +26,112 @@ fn reading(name: Name) -> Progress {
     }
 }
 
-/// The block that is read and the first piece that is left, of a read over an empty cache.
-fn read_block(alloc: Global, name: Name) -> Result<(u32, Option<Piece>), AllocError> {
+/// A read of 8,192 bytes from byte 100 on.
+fn reading(name: Name) -> Call {
+    Call::Read {
+        name,
+        off: 100,
+        len: 8192,
+    }
+}
+
+/// A file system with one file of three pages, from block 526 on.
+fn three_pages(alloc: Global, name: Name) -> Result<Fs, AllocError> {
+    let file = Preset {
+        name,
+        pages: 3,
+        fill: 65,
+    };
+    Fs::new(alloc, &[file], 526)
+}
+
+/// What process 1 does next in an admitted call, where `name` has three pages, none of them is held, and no block is
+/// free.
+fn next_in(alloc: Global, name: Name, call: Call) -> Result<ClientNext, AllocError> {
     let cache = Cache::<PlainTags>::new(alloc, 4)?;
-    let progress = reading(name);
-    let piece = piece_left(&progress);
+    let fs = three_pages(alloc, name)?;
+    let blocks = Alloc::new(alloc, 1024, 498)?;
     let view = ClientView {
         cache: &cache,
         places: 4,
         n: 1,
-        block: Some(526),
-        progress,
+        fs: &fs,
+        alloc: &blocks,
+        mapped: None,
+        progress: admitted(call),
         may_admit: true,
         next_id: ReqId(7),
     };
-    let block = match next_of(Pid(1), &view) {
-        ClientNext::Act(Event::Add { req, .. }) => match req.kind {
-            ReqKind::Read(_, _, _) => req.first,
-            _ => 0,
-        },
-        _ => 0,
-    };
-    Ok((block, piece))
+    Ok(next_of(Pid(1), &view))
 }
 
 #[test]
-fn a_page_that_is_not_held_is_read(rt: HostRuntime) -> Result<(), Fail> {
+fn the_first_piece_ends_with_its_page(rt: HostRuntime) -> Result<(), Fail> {
     let name = super::found(Name::new(b"a"))?;
-    let seen = read_block(rt.alloc(), name)?;
     let piece = Piece {
         page: 0,
         from: 100,
         to: 4096,
     };
-    assert_eq!(rt; seen, (526, Some(piece)));
+    assert_eq!(rt; piece_left(&admitted(reading(name))), Some(piece));
+    Ok(())
+}
+
+#[test]
+fn a_page_that_is_not_held_is_read(rt: HostRuntime) -> Result<(), Fail> {
+    let name = super::found(Name::new(b"a"))?;
+    let req = Request {
+        id: ReqId(7),
+        kind: ReqKind::Read(Pid(1), Serial(0), 0),
+        first: 526,
+        n: 1,
+    };
+    let due = Event::Add {
+        by: Actor::Client(Pid(1)),
+        req,
+    };
+    let seen = next_in(rt.alloc(), name, reading(name))?;
+    assert_eq!(rt; seen, ClientNext::Act(due));
+    Ok(())
+}
+
+/// A write of 10 bytes.
+fn writing(name: Name, off: u32) -> Call {
+    Call::Write {
+        name,
+        off,
+        len: 10,
+        fill: 7,
+    }
+}
+
+/// Process 1's call returns.
+fn ret(reply: Reply) -> Event {
+    Event::Ret { by: Pid(1), reply }
+}
+
+#[test]
+fn files_are_made_dropped_and_full(rt: HostRuntime) -> Result<(), Fail> {
+    let a = super::found(Name::new(b"a"))?;
+    let b = super::found(Name::new(b"b"))?;
+    let by = Pid(1);
+    let (slot, serial) = (Slot(1), Serial(1));
+    let made = Event::Make { by, slot, serial };
+    let (slot, serial) = (Slot(0), Serial(0));
+    let dropped = Event::Drop { by, slot, serial };
+    let rows = [
+        (Call::Creat { name: b }, made),
+        (Call::Creat { name: a }, ret(Reply::Exists)),
+        (Call::Unlink { name: a }, dropped),
+        (writing(a, 12288), ret(Reply::NoSpace(0))),
+        (writing(a, 4128768), ret(Reply::TooBig)),
+    ];
+    for (call, due) in rows {
+        assert_eq!(rt;
+            next_in(rt.alloc(), a, call)?,
+            ClientNext::Act(due),
+            "{call:?}"
+        );
+    }
     Ok(())
 }
