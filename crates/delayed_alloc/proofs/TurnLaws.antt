@@ -1,57 +1,115 @@
 -- What becomes of all blocks when a transaction is settled, when a run is taken, and at the start.
-use Rattle.std.proofs.Common.{◌≡◌, ◌≢◌, ◌⊎◌, ℕ, zero, suc, ◌+◌, ◌-◌, ◌*◌, ◌^◌, ◌<◌, ◌≤◌, Bool, true, false, cond, List, [], ◌∷◌, ◌++◌, length, map, replicate, get_or, set, Option, Some, None, count_by, refl, sym, ap, ◌∙◌, inl, inr, arith, length-set, length-append, get_or-set_same, get_or-set_other}
+use Rattle.std.proofs.Common.{◌≡◌, ◌≢◌, ◌⊎◌, ℕ, zero, suc, ◌+◌, ◌-◌, ◌*◌, ◌^◌, ◌<◌, ◌≤◌, Bool, true, false, cond, List, ◌++◌, length, map, replicate, get_or, set, Some, count_by, refl, sym, ap, ◌∙◌, inl, inr, arith, length-set, length-append, get_or-set_same, get_or-set_other}
 use Rattle.std.specs.Prelude.{◌==◌, nat_le, nat_lt, ◌&&◌, if◌then◌else◌}
-use Rattle.std.specs.List.{range_with_len}
-use Rattle.std.proofs.Math.Seq.{map-set_same}
-use Rattle.std.proofs.lemmas.Bool.{cases_eq, cases_lt, false_from_ne_true}
+use Rattle.std.proofs.lemmas.Bool.{cases_eq, cases_lt, false_from_ne_true, ne_eqb}
 use Rattle.std.proofs.lemmas.Bool.Decides.{eqb_tells, nat_tests}
-use Rattle.std.proofs.lemmas.List.{same_lists, get_or_past, get_or_append_left, get_or-append_right, get_or-replicate, length-replicate}
+use Rattle.std.proofs.lemmas.List.{same_lists, ext_get_or, get_or-map, get_or_past, get_or_append_left, get_or-append_right, get_or-replicate, length-map, length-replicate}
 use Rattle.std.proofs.lemmas.List.Sums.{sum_by-append}
 use Rattle.std.proofs.lemmas.List.Folds.{sum_by-replicate}
 use Rattle.split_types.specs.declared.ids.Txn.{Txn}
-use Rattle.fixed_places.specs.Keys.{IsAbsent}
-use Rattle.delayed_alloc.specs.declared.awaited.Awaited.{Awaited}
-use Rattle.delayed_alloc.specs.Bits.{is_set}
+use Rattle.delayed_alloc.specs.Bits.{is_set, IsEmptySet}
 use Rattle.delayed_alloc.specs.Blocks.{State, Blocks, Taken, Free, Waiting, is_free, settled, new_blocks, IsLeastRun, TakesRun}
-use Rattle.delayed_alloc.specs.Held.{unfree_state, state_of, states_of, AreHeld}
-use Rattle.delayed_alloc.proofs.HeldLaws.{length-states_of, read_within, found, none_past, found-state, counted-set, states-freed, waiting-within, waiting-unset, free-set, set-within}
+use Rattle.delayed_alloc.specs.Held.{state_of, states_of, AreHeld}
+use Rattle.delayed_alloc.specs.Settling.{SettlesRun}
+use Rattle.delayed_alloc.proofs.HeldLaws.{length-states_of, read_within, found, none_past, found-state, counted-set, state-waits, states-freed, waiting-within, free-set, set-within}
 
--- a block that is freed becomes what it was to become
-pub settled-freed : (words words' : List ℕ) (waits : List (Option Awaited)) (unused reserved block : ℕ) (t : Txn)
-    → AreHeld words waits unused reserved
-    → get_or waits block None ≡ Some (record { 0 = t })
+-- where a run is settled and then the next one, both are
+pub settles-joined : (t : Txn) (old mid new : Blocks) (first at end : ℕ) → first ≤ at → at ≤ end
+    → SettlesRun t old mid first at → SettlesRun t mid new at end → SettlesRun t old new first end
+settles-joined t old mid new first at end from to one two =
+    record {
+      blocks = two.blocks ∙ one.blocks;
+      run = λ block low high. elim (cases_lt block at) [
+        | inl before ↦ two.others block (inl before) ∙ one.run block low before
+        | inr after ↦ two.run block after high ∙ ap (settled t) (one.others block (inr after))
+      ];
+      others = λ block outside. elim outside [
+        | inl low ↦ two.others block (inl (omega arith)) ∙ one.others block (inl low)
+        | inr high ↦ two.others block (inr high) ∙ one.others block (inr (omega arith))
+      ];
+      promised = two.promised ∙ one.promised;
+    }
+
+-- before the first block
+pub settles-empty : (t : Txn) (a : Blocks) (at : ℕ) → SettlesRun t a a at at
+settles-empty t a at = record {
+  blocks = refl;
+  run = λ block low high. absurd (omega arith);
+  others = λ block outside. refl;
+  promised = refl;
+}
+
+-- behind the last block
+pub settles-all : (t : Txn) (old new : Blocks) (end : ℕ) → SettlesRun t old new 0 end → length old.states ≤ end
+    → new ≡ record old { states = map (settled t) old.states }
+settles-all t old new end run enough =
+    let len = length-map old.states (settled t) in
+    let states : new.states ≡ map (settled t) old.states =
+    ext_get_or Taken new.states (map (settled t) old.states) (run.blocks ∙ sym len) (λ k inside.
+    let b = run.blocks in
+    run.run k (omega arith) (omega arith) ∙ sym (get_or-map (settled t) old.states k Taken Taken (omega arith))) in
+    rw (← states, ← run.promised) refl
+
+-- a block that doesn't wait for the transaction stays
+state-settled : (words waits : List ℕ) (txns : List Txn) (block : ℕ) (t : Txn)
+    → (is_set waits block ≡ false) ⊎ ((get_or txns block (record { 0 = 0 })).0 ≢ t.0)
+    → settled t (state_of words waits txns block) ≡ state_of words waits txns block
+state-settled words waits txns block t other =
+    go (is_set words block) (is_set waits block) (get_or txns block (record { 0 = 0 })) other where
+      go : (set wait : Bool) (u : Txn) → (wait ≡ false) ⊎ (u.0 ≢ t.0)
+          → settled t (if set then Free else (if wait then Waiting u else Taken))
+          ≡ (if set then Free else (if wait then Waiting u else Taken))
+      go true wait u other = refl
+      go false false u other = refl
+      go false true u (inl off) = absurd (cc)
+      go false true u (inr apart) = rw (ne_eqb u.0 t.0 apart) refl
+
+-- where no block of a run waits for the transaction, all stay
+pub settles-none : (words waits : List ℕ) (txns : List Txn) (reserved first end : ℕ) (t : Txn)
+    → ((block : ℕ) → first ≤ block → block < end
+    → (is_set waits block ≡ false) ⊎ ((get_or txns block (record { 0 = 0 })).0 ≢ t.0))
+    → SettlesRun t (record { states = states_of words waits txns; reserved = reserved })
+    (record { states = states_of words waits txns; reserved = reserved }) first end
+settles-none words waits txns reserved first end t other = record {
+  blocks = refl;
+  run = λ block from to. elim (cases_lt block (length txns)) [
+    | inl inside ↦ rw (read_within words waits txns block Taken inside)
+        (sym (state-settled words waits txns block t (other block from to)))
+    | inr past ↦ let len = length-states_of words waits txns in
+        rw (get_or_past (states_of words waits txns) block Taken (omega arith)) refl
+  ];
+  others = λ block outside. refl;
+  promised = refl;
+}
+
+-- a block that waits for the transaction becomes free
+pub settles-freed : (words words' waits waits' : List ℕ) (txns : List Txn) (unused reserved block : ℕ) (t : Txn)
+    → AreHeld words waits txns unused reserved → is_set waits block ≡ true
     → ((k : ℕ) → is_set words' k ≡ (if k == block then true else is_set words k))
-    → map (settled t) (states_of words' (set waits block None)) ≡ map (settled t) (states_of words waits)
-settled-freed words words' waits unused reserved block t held waiting bits =
-    let within = waiting-within waits block (record { 0 = t }) waiting in
-    let off = waiting-unset words waits unused reserved block (record { 0 = t }) held waiting in
-    let was : get_or (states_of words waits) block Free ≡ Waiting t = read_within words waits block Free within
-    ∙ rw (off, waiting) refl in
-    let free : settled t Free ≡ settled t (get_or (states_of words waits) block Free) =
-    rw was (grind (arith, nat_tests)) in
-    rw (states-freed words words' waits block within bits)
-    (map-set_same (settled t) (states_of words waits) block Free Free free)
-
--- where no block waits for the transaction, all are what they were to become
-pub settled-all : (words : List ℕ) (waits : List (Option Awaited)) (t : Txn) → IsAbsent waits (record { 0 = t })
-    → map (settled t) (states_of words waits) ≡ states_of words waits
-settled-all words waits t absent = go (range_with_len 0 (length waits)) where
-  unchanged : (wait : Option Awaited) → (wait ≡ Some (record { 0 = t }) → ⊥)
-      → settled t (unfree_state wait) ≡ unfree_state wait
-  unchanged None not = refl
-  unchanged (Some a) not = elim (eqb_tells a.0.0 t.0) [
-    | inl same ↦ absurd (not (ap (λ n. let b : Awaited = record { 0 = record { 0 = n } } in Some b) same.1))
-    | inr other ↦ rw other.0 refl
-  ]
-
-  one : (set : Bool) (block : ℕ) → settled t (if set then Free else unfree_state (get_or waits block None))
-      ≡ (if set then Free else unfree_state (get_or waits block None))
-  one true block = refl
-  one false block = unchanged (get_or waits block None) (absent block)
-
-  go : (blocks : List ℕ) → map (settled t) (map (state_of words waits) blocks) ≡ map (state_of words waits) blocks
-  go [] = refl
-  go (b ∷ bs) = rw (one (is_set words b) b, go bs) refl
+    → ((k : ℕ) → is_set waits' k ≡ (if k == block then false else is_set waits k))
+    → (get_or txns block (record { 0 = 0 })).0 ≡ t.0
+    → SettlesRun t (record { states = states_of words waits txns; reserved = reserved })
+    (record { states = states_of words' waits' txns; reserved = reserved }) block (block + 1)
+settles-freed words words' waits waits' txns unused reserved block t held waiting bits waits_bits same =
+    let old = states_of words waits txns in
+    let within = waiting-within words waits txns unused reserved block held waiting in
+    let len = length-states_of words waits txns in
+    let room : block < length old = omega arith in
+    let was : get_or old block Taken ≡ Waiting (get_or txns block (record { 0 = 0 })) =
+    read_within words waits txns block Taken within
+    ∙ state-waits words words' waits waits' txns unused reserved block held waiting bits waits_bits in
+    let free : settled t (get_or old block Taken) ≡ Free = rw was (rw same (grind (arith, nat_tests))) in
+    rw (states-freed words words' waits waits' txns unused reserved block held waiting bits waits_bits) (record {
+      blocks = length-set old block Free;
+      run = λ k from to.
+          let here : k ≡ block = omega arith in
+          rw here (get_or-set_same old block Free Taken room ∙ sym free);
+      others = λ k outside. get_or-set_other old block k Free Taken (elim outside [
+        | inl low ↦ omega (arith, low)
+        | inr high ↦ omega (arith, high)
+      ]);
+      promised = refl;
+    })
 
 -- the free blocks that a run takes
 count-run : (old new : List State) (first m : ℕ) → length new ≡ length old → first + m ≤ length old
@@ -85,43 +143,43 @@ count-run old new first (suc m) len within free taken others =
     let more = counted-set new at Free Taken inside (taken m Free (omega arith)) in
     omega arith
 
-run-set : (words : List ℕ) (waits : List (Option Awaited)) (unused reserved n first m : ℕ)
-    → AreHeld words waits unused reserved
-    → IsLeastRun (record { states = states_of words waits; reserved = reserved }) n first m → (b : ℕ) → first ≤ b
+run-set : (words waits : List ℕ) (txns : List Txn) (unused reserved n first m : ℕ)
+    → AreHeld words waits txns unused reserved
+    → IsLeastRun (record { states = states_of words waits txns; reserved = reserved }) n first m → (b : ℕ) → first ≤ b
     → b < first + m → is_set words b ≡ true
-run-set words waits unused reserved n first m held run b from to =
-    free-set words waits b (run.free b from to)
+run-set words waits txns unused reserved n first m held run b from to =
+    free-set words waits txns b (run.free b from to)
 
 -- the least run is within the disk
-pub run-within : (words : List ℕ) (waits : List (Option Awaited)) (unused reserved n first m : ℕ)
-    → AreHeld words waits unused reserved
-    → IsLeastRun (record { states = states_of words waits; reserved = reserved }) n first m → first + m ≤ length waits
-run-within words waits unused reserved n first m held run =
+pub run-within : (words waits : List ℕ) (txns : List Txn) (unused reserved n first m : ℕ)
+    → AreHeld words waits txns unused reserved
+    → IsLeastRun (record { states = states_of words waits txns; reserved = reserved }) n first m → first + m ≤ length txns
+run-within words waits txns unused reserved n first m held run =
     let some = run.some in
-    let last = set-within words waits unused reserved (first + (m - 1)) held
-    (run-set words waits unused reserved n first m held run (first + (m - 1)) (omega arith) (omega arith)) in
+    let last = set-within words waits txns unused reserved (first + (m - 1)) held
+    (run-set words waits txns unused reserved n first m held run (first + (m - 1)) (omega arith) (omega arith)) in
     omega arith
 
-state-cleared : (words words' : List ℕ) (waits : List (Option Awaited)) (block : ℕ) → is_set words' block ≡ false
-    → get_or waits block None ≡ None → state_of words' waits block ≡ Taken
-state-cleared words words' waits block off none = rw (off, none) refl
+state-cleared : (words words' waits : List ℕ) (txns : List Txn) (block : ℕ) → is_set words' block ≡ false
+    → is_set waits block ≡ false → state_of words' waits txns block ≡ Taken
+state-cleared words words' waits txns block off none = rw (off, none) refl
 
 -- the run that was least is taken
-module _ (words words' : List ℕ) (waits : List (Option Awaited)) (unused reserved n first m : ℕ)
-    (held : AreHeld words waits unused reserved)
-    (run : IsLeastRun (record { states = states_of words waits; reserved = reserved }) n first m)
+module _ (words words' waits : List ℕ) (txns : List Txn) (unused reserved n first m : ℕ)
+    (held : AreHeld words waits txns unused reserved)
+    (run : IsLeastRun (record { states = states_of words waits txns; reserved = reserved }) n first m)
     (promised : n ≤ reserved) (len : length words' ≡ length words)
     (cleared : (b : ℕ) → first ≤ b → b < first + m → is_set words' b ≡ false) (others : (b : ℕ)
     → (b < first) ⊎ (first + m ≤ b) → is_set words' b ≡ is_set words b) where
-  within : first + m ≤ length waits
-  within = run-within words waits unused reserved n first m held run
+  within : first + m ≤ length txns
+  within = run-within words waits txns unused reserved n first m held run
 
-  taken : (b : ℕ) → first ≤ b → b < first + m → state_of words' waits b ≡ Taken
+  taken : (b : ℕ) → first ≤ b → b < first + m → state_of words' waits txns b ≡ Taken
   taken b from to =
-      let on = run-set words waits unused reserved n first m held run b from to in
-      state-cleared words words' waits b (cleared b from to) (held.apart b on)
+      let on = run-set words waits txns unused reserved n first m held run b from to in
+      state-cleared words words' waits txns b (cleared b from to) (held.apart b on)
 
-  stays : (k : ℕ) → (k < first) ⊎ (first + m ≤ k) → state_of words' waits k ≡ state_of words waits k
+  stays : (k : ℕ) → (k < first) ⊎ (first + m ≤ k) → state_of words' waits txns k ≡ state_of words waits txns k
   stays k outside = rw (others k outside) refl
 
   new_bits : (k : ℕ) → is_set words' k ≡ true → is_set words k ≡ true
@@ -134,27 +192,29 @@ module _ (words words' : List ℕ) (waits : List (Option Awaited)) (unused reser
         ]
       ]
 
-  fewer : count_by is_free (states_of words' waits) + m ≡ count_by is_free (states_of words waits)
+  fewer : count_by is_free (states_of words' waits txns) + m ≡ count_by is_free (states_of words waits txns)
   fewer =
-      let old_len = length-states_of words waits in
-      let new_len = length-states_of words' waits in
-      count-run (states_of words waits) (states_of words' waits) first m (new_len ∙ sym old_len) (let w = within in
+      let old_len = length-states_of words waits txns in
+      let new_len = length-states_of words' waits txns in
+      count-run (states_of words waits txns) (states_of words' waits txns) first m (new_len ∙ sym old_len) (let w = within in
       omega arith)
       (λ i d lower. let w = within in
-      read_within words waits (first + i) d (omega arith)
-      ∙ (found-state words waits (first + i) Free (run.free (first + i) (omega arith) (omega arith))).1)
-      (λ i d lower. let w = within in read_within words' waits (first + i) d (omega arith)
+      read_within words waits txns (first + i) d (omega arith)
+      ∙ (found-state words waits txns (first + i) Free (run.free (first + i) (omega arith) (omega arith))).1)
+      (λ i d lower. let w = within in read_within words' waits txns (first + i) d (omega arith)
       ∙ taken (first + i) (omega arith) (omega arith))
-      (λ k d outside. elim (cases_lt k (length waits)) [
-        | inl inside ↦ read_within words' waits k d inside ∙ stays k outside ∙ sym (read_within words waits k d inside)
-        | inr past ↦ get_or_past (states_of words' waits) k d (omega arith)
-            ∙ sym (get_or_past (states_of words waits) k d (omega arith))
+      (λ k d outside. elim (cases_lt k (length txns)) [
+        | inl inside ↦ read_within words' waits txns k d inside ∙ stays k outside ∙ sym (read_within words waits txns k d inside)
+        | inr past ↦ get_or_past (states_of words' waits txns) k d (omega arith)
+            ∙ sym (get_or_past (states_of words waits txns) k d (omega arith))
       ])
 
-  pub held-taken : AreHeld words' waits (unused - m) (reserved - m)
+  pub held-taken : AreHeld words' waits txns (unused - m) (reserved - m)
   held-taken = record {
     few = held.few;
     room = rw len held.room;
+    waits_room = held.waits_room;
+    waits_outside = held.waits_outside;
     outside = λ k past. false_from_ne_true (is_set words' k) (λ on. let was = new_bits k on in
         let off = held.outside k past in absurd (cc));
     apart = λ k on. held.apart k (new_bits k on);
@@ -162,17 +222,17 @@ module _ (words words' : List ℕ) (waits : List (Option Awaited)) (unused reser
     enough = let e = held.enough in let r = run.most in omega arith;
   }
 
-  pub takes_run : TakesRun (record { states = states_of words waits; reserved = reserved })
-      (record { states = states_of words' waits; reserved = reserved - m }) first m
+  pub takes_run : TakesRun (record { states = states_of words waits txns; reserved = reserved })
+      (record { states = states_of words' waits txns; reserved = reserved - m }) first m
   takes_run =
       let w = within in
       record {
-        blocks = length-states_of words' waits ∙ sym (length-states_of words waits);
-        run = λ b from to. found words' waits b (omega arith) ∙ ap (λ s. Some s) (taken b from to);
-        others = λ k outside. elim (cases_lt k (length waits)) [
-          | inl inside ↦ found words' waits k inside ∙ ap (λ s. Some s) (stays k outside)
-              ∙ sym (found words waits k inside)
-          | inr past ↦ none_past words' waits k past ∙ sym (none_past words waits k past)
+        blocks = length-states_of words' waits txns ∙ sym (length-states_of words waits txns);
+        run = λ b from to. found words' waits txns b (omega arith) ∙ ap (λ s. Some s) (taken b from to);
+        others = λ k outside. elim (cases_lt k (length txns)) [
+          | inl inside ↦ found words' waits txns k inside ∙ ap (λ s. Some s) (stays k outside)
+              ∙ sym (found words waits txns k inside)
+          | inr past ↦ none_past words' waits txns k past ∙ sym (none_past words waits txns k past)
         ];
         promised = let r = run.most in omega arith;
       }
@@ -187,24 +247,24 @@ range-more first at k from =
     ]
 
 -- at the start
-started : (words : List ℕ) (device first : ℕ) → first ≤ device
-    → ((k : ℕ) → is_set words k ≡ (nat_le first k && nat_lt k device))
-    → states_of words (replicate device None) ≡ replicate first Taken ++ replicate (device - first) Free
-started words device first within bits =
-    let waits : List (Option Awaited) = replicate device None in
-    let len : length waits ≡ device = length-replicate device None in
+started : (words waits : List ℕ) (device first : ℕ) → first ≤ device
+    → ((k : ℕ) → is_set words k ≡ (nat_le first k && nat_lt k device)) → IsEmptySet waits
+    → states_of words waits (replicate device (record { 0 = 0 }))
+    ≡ replicate first Taken ++ replicate (device - first) Free
+started words waits device first within bits none =
+    let txns : List Txn = replicate device (record { 0 = 0 }) in
+    let len : length txns ≡ device = length-replicate device (record { 0 = 0 }) in
     let taken_len : length (replicate first Taken) ≡ first = length-replicate first Taken in
     let free_len : length (replicate (device - first) Free) ≡ device - first = length-replicate (device - first) Free in
     let right_len = length-append (replicate first Taken) (replicate (device - first) Free) in
-    let left_len = length-states_of words waits in
-    same_lists (states_of words waits) (replicate first Taken ++ replicate (device - first) Free) (omega arith)
+    let left_len = length-states_of words waits txns in
+    same_lists (states_of words waits txns) (replicate first Taken ++ replicate (device - first) Free) (omega arith)
     (λ k d inside.
     let k_within : k < device = omega arith in
-    let none : get_or waits k None ≡ None = get_or-replicate device k None None k_within in
-    read_within words waits k d (omega arith) ∙ (elim (cases_lt k first) [
+    read_within words waits txns k d (omega arith) ∙ (elim (cases_lt k first) [
       | inl before ↦
           let off : is_set words k ≡ false = bits k ∙ grind (arith, nat_tests) in
-          rw (off, none) (sym (get_or_append_left (replicate first Taken) (replicate (device - first) Free) d k
+          rw (off, none k) (sym (get_or_append_left (replicate first Taken) (replicate (device - first) Free) d k
           (omega arith) ∙ get_or-replicate first k Taken d before))
       | inr from ↦
           let on : is_set words k ≡ true = bits k ∙ grind (arith, nat_tests) in
@@ -212,21 +272,21 @@ started words device first within bits =
           from ∙ get_or-replicate (device - first) (k - first) Free d (omega arith)))
     ]))
 
-pub held-started : (words : List ℕ) (device first : ℕ) → first ≤ device → device < 2 ^ 32 → device ≤ 64 * length words
-    → ((k : ℕ) → is_set words k ≡ (nat_le first k && nat_lt k device))
-    → AreHeld words (replicate device None) (device - first) 0
-held-started words device first within few room bits =
-    let waits : List (Option Awaited) = replicate device None in
-    let len : length waits ≡ device = length-replicate device None in
-    let states = started words device first within bits in
+pub held-started : (words waits : List ℕ) (device first : ℕ) → first ≤ device → device < 2 ^ 32
+    → device ≤ 64 * length words → device ≤ 64 * length waits
+    → ((k : ℕ) → is_set words k ≡ (nat_le first k && nat_lt k device)) → IsEmptySet waits
+    → AreHeld words waits (replicate device (record { 0 = 0 })) (device - first) 0
+held-started words waits device first within few room waits_room bits none =
+    let txns : List Txn = replicate device (record { 0 = 0 }) in
+    let len : length txns ≡ device = length-replicate device (record { 0 = 0 }) in
+    let states = started words waits device first within bits none in
     record {
       few = rw len few;
       room = rw len room;
+      waits_room = rw len waits_room;
       outside = λ k past. let beyond : device ≤ k = rw len at past in bits k ∙ grind (arith, nat_tests);
-      apart = λ k on. elim (cases_lt k device) [
-        | inl inside ↦ get_or-replicate device k None None inside
-        | inr past ↦ get_or_past waits k None (omega arith)
-      ];
+      waits_outside = λ k past. none k;
+      apart = λ k on. none k;
       counted = rw states (sym (sum_by-append (λ s. cond (is_free s) 1 0) (replicate first Taken)
           (replicate (device - first) Free)
           ∙ (let taken = sum_by-replicate (λ s. cond (is_free s) 1 0) first Taken in
@@ -235,8 +295,12 @@ held-started words device first within few room bits =
       enough = omega arith;
     }
 
-pub states-started : (words : List ℕ) (device first : ℕ) → first ≤ device
-    → ((k : ℕ) → is_set words k ≡ (nat_le first k && nat_lt k device))
-    → (let a : Blocks = record { states = states_of words (replicate device None); reserved = 0 } in
+pub states-started : (words waits : List ℕ) (device first : ℕ) → first ≤ device
+    → ((k : ℕ) → is_set words k ≡ (nat_le first k && nat_lt k device)) → IsEmptySet waits
+    → (let a : Blocks = record {
+      states = states_of words waits (replicate device (record { 0 = 0 }));
+      reserved = 0;
+    } in
     a ≡ new_blocks device first)
-states-started words device first within bits = rw (started words device first within bits) refl
+states-started words waits device first within bits none =
+    rw (started words waits device first within bits none) refl

@@ -1,11 +1,10 @@
 //! Which blocks are taken, free or waiting, and how many free ones are promised.
-ghost use Rattle.std.specs.Prelude.{◌≡◌, ◌+◌, ◌-◌, ◌<◌, ◌≤◌, ◌↔◌, length, map, slice_set, Some, IfOk, IsTrue};
+ghost use Rattle.std.specs.Prelude.{◌≡◌, ◌+◌, ◌-◌, ◌*◌, ◌^◌, ◌<◌, ◌≤◌, ◌↔◌, length, map, slice_set, Some, IfOk, IsTrue};
 ghost use Rattle.std.specs.Bool.{OnTrue, OnFalse};
 ghost use Rattle.delayed_alloc.specs.Blocks.{Taken, Waiting, state_at, free_count, new_blocks, IsLeastRun, TakesRun, settled};
+ghost use Rattle.delayed_alloc.specs.Settling.{SettlesRun};
 
-use crate::awaited::Awaited;
 use crate::block_set::BlockSet;
-use fixed_places::Groups;
 use split_types::Txn;
 use std::alloc::{AllocError, Global};
 use std::marker::Model;
@@ -14,10 +13,12 @@ use std::marker::Model;
 const FIRST: u32 = 526;
 
 /// The blocks of a disk: each is taken, free, or waits for a transaction; some free ones are promised.
+/// Where a block waits, `txns` has its transaction.
 #[derive(Debug, Drop)]
 pub struct Alloc {
     free: BlockSet,
-    waiting: Groups<Awaited>,
+    waiting: BlockSet,
+    txns: Vec<Txn>,
     unused: u32,
     reserved: u32,
 }
@@ -29,9 +30,9 @@ impl Model for Alloc {
 
     ghost use Rattle.delayed_alloc.specs.Held.{states_of, AreHeld};
 
-    ghost view = { λ a. record { states = states_of a.free.words.items a.waiting; reserved = a.reserved } };
+    ghost view = { λ a. record { states = states_of a.free.words.items a.waiting.words.items a.txns.items; reserved = a.reserved } };
 
-    ghost invariant = { λ a. AreHeld a.free.words.items a.waiting a.unused a.reserved };
+    ghost invariant = { λ a. AreHeld a.free.words.items a.waiting.words.items a.txns.items a.unused a.reserved };
 }
 
 impl Alloc {
@@ -47,7 +48,8 @@ impl Alloc {
         }
         Ok(Alloc {
             free,
-            waiting: Groups::new(alloc, device as usize)?,
+            waiting: BlockSet::new(alloc, device as usize)?,
+            txns: vec![in alloc; Txn(0); device as usize]?,
             unused: device - FIRST - used,
             reserved: 0,
         })
@@ -112,14 +114,37 @@ impl Alloc {
         requires { state_at self.old block ≡ Some Taken }
         ensures { self.new ≡ record self.old { states = slice_set self.old.states block (Waiting t) } }
     {
-        self.waiting.put(block as usize, Awaited(t));
+        self.waiting.insert(block as usize);
+        self.txns[block as usize] = t;
     }
 
     /// The blocks that wait for a transaction are free.
     pub fn settle(&mut self, t: Txn)
         ensures { self.new ≡ record self.old { states = map (settled t) self.old.states } }
     {
-        while let Some(block) = self.waiting.take(&Awaited(t)) {
+        for at in 0..self.waiting.word_count() {
+            if self.waiting.has_any(at) {
+                self.settle_word(at, t);
+            }
+        }
+    }
+
+    /// Frees the blocks of one word that wait for a transaction.
+    fn settle_word(&mut self, at: usize, t: Txn)
+        requires { at < 2 ^ 32 }
+        ensures { SettlesRun t self.old self.new (64 * at) (64 * at + 64) }
+    {
+        for bit in 0..64 {
+            self.settle_block(64 * at + bit, t);
+        }
+    }
+
+    /// Frees a block if it waits for a transaction.
+    fn settle_block(&mut self, block: usize, t: Txn)
+        ensures { SettlesRun t self.old self.new block (block + 1) }
+    {
+        if self.waiting.contains(block) && self.txns[block].0 == t.0 {
+            self.waiting.remove(block);
             self.free.insert(block);
             self.unused += 1;
         }

@@ -1,5 +1,6 @@
 //! Sets of blocks.
 ghost use Rattle.std.specs.Prelude.{◌≡◌, ◌⊎◌, ℕ, ◌+◌, ◌*◌, ◌<◌, ◌≤◌, ◌^◌, ◌==◌, Bool, true, false, if◌then◌else◌, length, replicate, vec_len, IfOk, IfNone, IfSome};
+ghost use Rattle.std.specs.Bool.{OnFalse};
 ghost use Rattle.std.specs.Int.{trailing_zeros, w64};
 ghost use Rattle.delayed_alloc.specs.Bits.{is_set, with_bit, without_bit, AreTops, IsFirstSet, IsEmptySet};
 
@@ -103,6 +104,21 @@ impl BlockSet {
         if self.words[block / 64] == 0 {
             clear_bit(&mut self.tops, block / 64);
         }
+    }
+
+    /// How many words of 64 blocks there are.
+    pub(crate) fn word_count(&self) -> usize
+        ensures { result ≡ vec_len self.now.words }
+    {
+        self.words.len()
+    }
+
+    /// Whether a word has a block of the set.
+    pub(crate) fn has_any(&self, at: usize) -> bool
+        ensures none { OnFalse result ((b : ℕ) → 64 * at ≤ b → b < 64 * at + 64
+            → is_set self.now.words.items b ≡ false) }
+    {
+        at < self.words.len() && self.words[at] != 0
     }
 
     /// Takes a run of blocks out.

@@ -14,7 +14,6 @@
 #![tactic(auto)]
 
 mod alloc;
-mod awaited;
 mod block_set;
 
 pub use alloc::Alloc;

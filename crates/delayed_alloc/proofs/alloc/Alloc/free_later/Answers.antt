@@ -1,33 +1,40 @@
-use Rattle.std.proofs.Common.{refl, ap}
+use Rattle.std.proofs.Common.{◌≡◌, length, refl, ap, arith}
 use Rattle.delayed_alloc.specs.Blocks.{Blocks, Taken}
-use Rattle.delayed_alloc.proofs.HeldLaws.{found-state, taken-parts, states-waiting, held-waiting}
+use Rattle.delayed_alloc.proofs.HeldLaws.{found-state, states-waiting, held-waiting}
 use Rattle.delayed_alloc.proofs.alloc.Alloc.free_later.Goals as goal
 
-pub put-requires-clause-place : goal.put-requires-clause-place
-put-requires-clause-place c =
+pub insert-requires : goal.insert-requires
+insert-requires c =
     let i = c.self.inside in
     let states = ap (λ (a : Blocks). a.states) c.self.view_is in
-    (found-state i.free.words.items i.waiting c.args.block Taken (rw states c.requires)).0
+    let within = (found-state i.free.words.items i.waiting.words.items i.txns.items c.args.block Taken
+    (rw states c.requires)).0 in
+    omega (arith, within, c.self.invariant.waits_room, i.waiting.words.ok.0)
 
-pub put-requires-clause-empty : goal.put-requires-clause-empty
-put-requires-clause-empty c =
+pub index_mut-requires : goal.index_mut-requires
+index_mut-requires c =
     let i = c.self.inside in
     let states = ap (λ (a : Blocks). a.states) c.self.view_is in
-    (taken-parts i.free.words.items i.waiting c.args.block
-    (found-state i.free.words.items i.waiting c.args.block Taken (rw states c.requires)).1).1
+    let within = (found-state i.free.words.items i.waiting.words.items i.txns.items c.args.block Taken
+    (rw states c.requires)).0 in
+    omega (arith, within, i.txns.ok.0)
 
 pub invariant_of-self : goal.invariant_of-self
 invariant_of-self c =
     let i = c.self.inside in
+    let waits = c.insert.new.self.words in
     let states = ap (λ (a : Blocks). a.states) c.self.view_is in
-    rw c.put.ensures (held-waiting i.free.words.items i.waiting i.unused i.reserved c.args.block
-    (record { 0 = c.args.t }) c.self.invariant (rw states c.requires))
+    let len : length waits.items ≡ length i.waiting.words.items =
+    omega (arith, waits.ok.0, i.waiting.words.ok.0, c.insert.ensures.len) in
+    held-waiting i.free.words.items i.waiting.words.items waits.items i.txns.items c.args.block c.args.t
+    (rw states c.requires) c.insert.ensures.set i.unused i.reserved c.self.invariant len
 
 pub returns : goal.returns
 returns c =
     let i = c.self.inside in
+    let waits = c.insert.new.self.words in
     let states = ap (λ (a : Blocks). a.states) c.self.view_is in
     let reserved = ap (λ (a : Blocks). a.reserved) c.self.view_is in
-    let waits = states-waiting i.free.words.items i.waiting c.args.block (record { 0 = c.args.t })
-    (rw states c.requires) in
-    rw (c.put.ensures, waits, states, reserved) refl
+    let waiting = states-waiting i.free.words.items i.waiting.words.items waits.items i.txns.items c.args.block c.args.t
+    (rw states c.requires) c.insert.ensures.set in
+    rw (waiting, states, reserved) refl

@@ -31,7 +31,10 @@ invariant_of-result c =
     ) in
     let few : device < 2 ^ 32 = omega arith in
     let unused : device - 526 - c.args.used ≡ device - (526 + c.args.used) = omega arith in
-    rw (c.in_ok-new.ensures, unused) (held-started words.items device (526 + c.args.used) c.requires few room bits)
+    let waits = c.in_ok-new.field-0.words in
+    let waits_room : device ≤ 64 * length waits.items = omega (arith, waits.ok.0, c.in_ok-new.ensures.room) in
+    rw (c.in_ok-vec.ensures.items_if_clones_equal (λ y same. same), unused)
+    (held-started words.items c.in_ok-new.field-0.words.items device (526 + c.args.used) c.requires few room waits_room bits c.in_ok-new.ensures.empty)
 
 pub returns : goal.returns
 returns c =
@@ -45,4 +48,4 @@ returns c =
     ) in
     let bits : (k : ℕ) → is_set words.items k ≡ (nat_le (526 + c.args.used) k && nat_lt k device) =
     λ k. c.loop-block.invariant.bits k ∙ ap (λ b. nat_le (526 + c.args.used) k && nat_lt k b) end in
-    rw c.in_ok-new.ensures (states-started words.items device (526 + c.args.used) c.requires bits)
+    rw (c.in_ok-vec.ensures.items_if_clones_equal (λ y same. same)) (states-started words.items c.in_ok-new.field-0.words.items device (526 + c.args.used) c.requires bits c.in_ok-new.ensures.empty)

@@ -7,7 +7,7 @@ pub remove_run-requires-clause-within : goal.remove_run-requires-clause-within
 remove_run-requires-clause-within c =
     let i = c.self.inside in
     let run = rw (← c.self.view_is) at c.peek_run-first.ensures in
-    let within = run-within i.free.words.items i.waiting i.unused i.reserved c.args.n c.peek_run-first.result.0
+    let within = run-within i.free.words.items i.waiting.words.items i.txns.items i.unused i.reserved c.args.n c.peek_run-first.result.0
     c.peek_run-first.result.1 c.self.invariant run in
     omega (arith, within, c.self.invariant.room, i.free.words.ok.0)
 
@@ -19,7 +19,7 @@ invariant_of-self c =
     let reserved : i.reserved ≡ c.args.self.now.reserved = ap (λ (a : Blocks). a.reserved) c.self.view_is in
     let len : length words.items ≡ length i.free.words.items =
     omega (arith, words.ok.0, i.free.words.ok.0, c.remove_run.ensures.len) in
-    held-taken i.free.words.items words.items i.waiting i.unused i.reserved c.args.n c.peek_run-first.result.0
+    held-taken i.free.words.items words.items i.waiting.words.items i.txns.items i.unused i.reserved c.args.n c.peek_run-first.result.0
     c.peek_run-first.result.1 c.self.invariant run
     (rw reserved c.requires.promised) len c.remove_run.ensures.run c.remove_run.ensures.others
 
@@ -32,6 +32,6 @@ returns-clause-taken c =
     let len : length words.items ≡ length i.free.words.items =
     omega (arith, words.ok.0, i.free.words.ok.0, c.remove_run.ensures.len) in
     rw (← c.self.view_is)
-    (takes_run i.free.words.items words.items i.waiting i.unused i.reserved c.args.n c.peek_run-first.result.0
+    (takes_run i.free.words.items words.items i.waiting.words.items i.txns.items i.unused i.reserved c.args.n c.peek_run-first.result.0
     c.peek_run-first.result.1 c.self.invariant run
     (rw reserved c.requires.promised) len c.remove_run.ensures.run c.remove_run.ensures.others)
