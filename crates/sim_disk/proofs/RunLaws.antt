@@ -33,12 +33,12 @@ standing_some places j k d within here = omega (
 pub same_content : (runs new : Slab Run) (p : Place)
     → ((k : ℕ) → is_in k p ≡ true → bytes_in (get new k) ≡ bytes_in (get runs k)) → content new p ≡ content runs p
 same_content runs new (Filled byte) same = refl
-same_content runs new (Within run at) same = ap (λ bytes. block_of bytes at) (same run (eq-eqb run run refl))
+same_content runs new (Within at run) same = ap (λ bytes. block_of bytes at) (same run (eq-eqb run run refl))
 
 pub same_fit : (runs new : Slab Run) (p : Place)
     → ((k : ℕ) → is_in k p ≡ true → bytes_in (get new k) ≡ bytes_in (get runs k)) → Fits runs p → Fits new p
 same_fit runs new (Filled byte) same fits = tt
-same_fit runs new (Within run at) same fits =
+same_fit runs new (Within at run) same fits =
     subst (λ bytes. 4096 * (at + 1) ≤ length bytes) (sym (same run (eq-eqb run run refl))) fits
 
 module _ (places : List Place) (runs new : Slab Run) (b : ℕ) (p old : Place) (kept : AreKept places runs)
@@ -203,4 +203,4 @@ backed_more places shared more still backed = λ j d within. one (get_or places 
   where
     one : (p : Place) → IsBacked shared p → IsBacked more p
     one (Filled byte) made = still byte made
-    one (Within run at) made = tt
+    one (Within at run) made = tt

@@ -20,12 +20,12 @@ uses_in (Some run) = run.uses
 -- the bytes at a place
 abbrev pub content : Slab Run → Place → List ℕ
 content runs (Filled byte) = filled byte
-content runs (Within run at) = block_of (bytes_in (get runs run)) at
+content runs (Within at run) = block_of (bytes_in (get runs run)) at
 
 -- the place is in this run
 abbrev pub is_in : ℕ → Place → Bool
 is_in k (Filled byte) = false
-is_in k (Within run at) = run == k
+is_in k (Within at run) = run == k
 
 -- how many blocks stand in a run
 abbrev pub standing : List Place → ℕ → ℕ
@@ -34,7 +34,7 @@ standing places k = count_by (is_in k) places
 -- where the place is in a run, it is within its bytes
 abbrev pub Fits : Slab Run → Place → Type 0
 Fits runs (Filled byte) = Unit {0}
-Fits runs (Within run at) = 4096 * (at + 1) ≤ length (bytes_in (get runs run))
+Fits runs (Within at run) = 4096 * (at + 1) ≤ length (bytes_in (get runs run))
 
 -- each run tells how many blocks stand in it, and they are within its bytes
 pub record AreKept (places : List Place) (runs : Slab Run) : Type 0 where
@@ -45,7 +45,7 @@ pub record AreKept (places : List Place) (runs : Slab Run) : Type 0 where
 -- where the place is the shared block of a byte, that was made
 abbrev pub IsBacked : List (List ℕ) → Place → Type 0
 IsBacked shared (Filled byte) = IsMade shared byte
-IsBacked shared (Within run at) = Unit {0}
+IsBacked shared (Within at run) = Unit {0}
 
 -- each block stands in a run, which is kept, or is the shared block of a byte, which was made
 pub record AreHeld (places : List Place) (runs : Slab Run) (shared : List (List ℕ)) : Type 0 where

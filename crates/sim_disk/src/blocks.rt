@@ -80,7 +80,7 @@ impl Blocks {
     {
         match self.places[b as usize] {
             Place::Filled(byte) => self.shared.of(byte),
-            Place::Within { run, at } => {
+            Place::Within { at, run } => {
                 let from = at as usize * BLOCK;
                 &self.runs[run].bytes[from..from + BLOCK]
             }
@@ -187,7 +187,7 @@ impl Blocks {
                 &mut self.places,
                 &mut self.runs,
                 (first + i) as usize,
-                Place::Within { run, at: i },
+                Place::Within { at: i, run },
             );
         }
     }

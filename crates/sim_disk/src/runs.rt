@@ -12,7 +12,7 @@ pub(crate) enum Place {
     /// In the shared block that has this byte at each place.
     Filled(u8),
     /// In this run, behind `at` other blocks.
-    Within { run: usize, at: u32 },
+    Within { at: u32, run: usize },
 }
 
 /// Bytes that came together, and how many blocks of the disk stand in them.
