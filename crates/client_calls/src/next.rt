@@ -1,6 +1,6 @@
 //! What a process does next.
 ghost use Rattle.std.specs.Prelude.{◌≡◌, Some};
-ghost use Rattle.split_types.specs.Clients.{ClientState, next_of_admitted, next_of_call, next_of_client};
+ghost use Rattle.split_types.specs.Clients.{ClientState, next_of_client};
 ghost use Rattle.client_calls.specs.Shows.{Shows, answer_of};
 
 use crate::bound::next_of_bound;
@@ -20,45 +20,33 @@ pub enum ClientNext {
     Act(Event),
 }
 
-/// What comes next in an admitted call.
-fn next_of_admitted<S: TagStore>(p: Pid, v: &ClientView<'_, S>, call: &Call) -> Option<Event>
-    requires { v.now.progress.call ≡ Some call.now }
-    ensures { (s : ClientState) → Shows p v.now s → result ≡ next_of_admitted s call.now }
+/// The next event of a process: the one that its table gives for what it sees. There is none where it waits, or has no
+/// call left.
+pub fn next_event<S: TagStore>(p: Pid, v: &ClientView<'_, S>) -> Option<Event>
+    ensures { (s : ClientState) → Shows p v.now s → result ≡ next_of_client s }
 {
-    match call {
-        Call::Creat { name } => Some(next_of_creat(p, v, name)),
-        Call::Unlink { .. } => next_of_unlink(p, v, call),
-        Call::Write { .. } | Call::Read { .. } | Call::Fsync { .. } => next_of_bound(p, v, call),
-    }
-}
-
-/// What comes next in a call that is under way or next.
-fn next_of_call<S: TagStore>(p: Pid, v: &ClientView<'_, S>, call: &Call) -> Option<Event>
-    requires { v.now.progress.call ≡ Some call.now }
-    ensures { (s : ClientState) → Shows p v.now s → result ≡ next_of_call s call.now }
-{
-    if !v.progress.entered {
-        return Some(Event::Enter {
+    let progress = &v.progress;
+    match &progress.call {
+        None => None,
+        Some(_) if !progress.entered => Some(Event::Enter {
             by: p,
-            k: v.progress.number,
-        });
+            k: progress.number,
+        }),
+        Some(_) if !progress.admitted && v.may_admit => Some(Event::Admit { by: p }),
+        Some(_) if !progress.admitted => None,
+        Some(Call::Creat { name }) => next_of_creat(p, v, name),
+        Some(call @ Call::Unlink { .. }) => next_of_unlink(p, v, call),
+        Some(call) => next_of_bound(p, v, call),
     }
-    if !v.progress.admitted {
-        return v.may_admit.then_some(Event::Admit { by: p });
-    }
-    next_of_admitted(p, v, call)
 }
 
-/// What a process does next: the event that its table gives for what it sees. It waits where the table gives none,
-/// and a call is under way or left.
+/// What a process does next: its next event, if it has one. It waits where it has none, and a call is under way or left.
 pub fn next_of<S: TagStore>(p: Pid, v: &ClientView<'_, S>) -> ClientNext
     ensures { (s : ClientState) → Shows p v.now s → result ≡ answer_of (next_of_client s) s.call }
 {
-    let Some(call) = v.progress.call else {
-        return ClientNext::Nothing;
-    };
-    match next_of_call(p, v, &call) {
+    match next_event(p, v) {
         Some(e) => ClientNext::Act(e),
-        None => ClientNext::Wait,
+        None if v.progress.call.is_some() => ClientNext::Wait,
+        None => ClientNext::Nothing,
     }
 }

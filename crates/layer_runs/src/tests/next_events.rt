@@ -1,6 +1,6 @@
 //! What a process does next.
 use cause_set::PlainTags;
-use client_calls::{ClientNext, ClientView, Piece, Progress, next_of, piece_left};
+use client_calls::{ClientNext, ClientView, Piece, Progress, next_event, next_of, piece_left};
 use delayed_alloc::Alloc;
 use page_cache::Cache;
 use small_fs::Fs;
@@ -45,9 +45,13 @@ fn three_pages(alloc: Global, name: Name) -> Result<Fs, AllocError> {
     Fs::new(alloc, &[file], 526)
 }
 
-/// What process 1 does next in an admitted call, where `name` has three pages, none of them is held, and no block is
-/// free.
-fn next_in(alloc: Global, name: Name, call: Call) -> Result<ClientNext, AllocError> {
+/// What process 1 does next in an admitted call, and its next event, where `name` has three pages, none of them is held,
+/// and no block is free.
+fn next_in(
+    alloc: Global,
+    name: Name,
+    call: Call,
+) -> Result<(ClientNext, Option<Event>), AllocError> {
     let cache = Cache::<PlainTags>::new(alloc, 4)?;
     let fs = three_pages(alloc, name)?;
     let blocks = Alloc::new(alloc, 1024, 498)?;
@@ -62,7 +66,7 @@ fn next_in(alloc: Global, name: Name, call: Call) -> Result<ClientNext, AllocErr
         may_admit: true,
         next_id: ReqId(7),
     };
-    Ok(next_of(Pid(1), &view))
+    Ok((next_of(Pid(1), &view), next_event(Pid(1), &view)))
 }
 
 #[test]
@@ -90,8 +94,9 @@ fn a_page_that_is_not_held_is_read(rt: HostRuntime) -> Result<(), Fail> {
         by: Actor::Client(Pid(1)),
         req,
     };
-    let seen = next_in(rt.alloc(), name, reading(name))?;
-    assert_eq!(rt; seen, ClientNext::Act(due));
+    let (next, event) = next_in(rt.alloc(), name, reading(name))?;
+    assert_eq!(rt; next, ClientNext::Act(due));
+    assert_eq!(rt; event, Some(due));
     Ok(())
 }
 
@@ -127,11 +132,9 @@ fn files_are_made_dropped_and_full(rt: HostRuntime) -> Result<(), Fail> {
         (writing(a, 4128768), ret(Reply::TooBig)),
     ];
     for (call, due) in rows {
-        assert_eq!(rt;
-            next_in(rt.alloc(), a, call)?,
-            ClientNext::Act(due),
-            "{call:?}"
-        );
+        let (next, event) = next_in(rt.alloc(), a, call)?;
+        assert_eq!(rt; next, ClientNext::Act(due), "{call:?}");
+        assert_eq!(rt; event, Some(due), "{call:?}");
     }
     Ok(())
 }
