@@ -2,7 +2,7 @@
 use Rattle.std.proofs.Common.{◌≡◌, ℕ, zero, suc, ◌+◌, ◌-◌, ◌<◌, ◌≤◌, List, [], ◌∷◌, ◌++◌, length, map, take, replicate}
 use Rattle.std.proofs.Common.{slice_get, Bool, true, false, Option, Some, None, refl, ap, sym, ◌∙◌, subst, arith}
 use Rattle.std.proofs.Common.{nat_le, ◌&&◌, if◌then◌else◌}
-use Rattle.std.specs.Prelude.{IfNone, drop}
+use Rattle.std.specs.Prelude.{drop}
 use Rattle.std.specs.List.{flat_map}
 use Rattle.std.proofs.lemmas.Bool.{eqb-true}
 use Rattle.std.proofs.lemmas.Option.{slice_get_past}
@@ -28,7 +28,7 @@ use Rattle.split_core.specs.declared.step.Step.TheVariants.{Made, Idle}
 use Rattle.split_core.specs.declared.plan.Plan.{Plan}
 use Rattle.split_core.specs.declared.parts.Parts.{Parts}
 use Rattle.split_core.specs.StandsFor.{Simulation, StandsFor}
-use Rattle.split_core.specs.Steps.{client, clients_from, StepsTo, TurnsTo}
+use Rattle.split_core.specs.Steps.{client, clients_from, others, StepsTo, TurnsTo}
 
 -- ---- the first actor with a next event
 -- the first of two lists of actors
@@ -103,29 +103,12 @@ pass_finished w h (suc n) within finished =
     ∙ pass_client w h n (omega (arith, within)) (none_left w h (n + 1) (finished n (omega arith)))
     ∙ (let next : n + 1 ≡ suc n = omega arith in ap (λ k. first_next w h (clients_from w k)) next)
 
--- the actors that are asked behind the processes
-abbrev pub others : List Actor
-others = Wb ∷ Cm ∷ Dq ∷ Dn 0 ∷ Tk ∷ []
-
 -- the actors in the order of turns, where so many processes have finished
 pub turn_is : (w : Workload) (h : List Event) (n : ℕ) → n ≤ length w.procs
     → ((i : ℕ) → i < n → is_finished w h (i + 1) ≡ true)
     → first_next w h (turn_order w) ≡ first_of (first_next w h (clients_from w n)) (first_next w h others)
 turn_is w h n within finished = first_next-append w h (clients_from w 0) others
     ∙ ap (λ o. first_of o (first_next w h others)) (pass_finished w h n within finished)
-
--- the others, where writeback has no next event, and where the dispatcher has none besides
-pub pass_writeback : (w : Workload) (h : List Event) → next w h Wb ≡ None
-    → first_next w h others ≡ first_next w h (Dq ∷ Dn 0 ∷ Tk ∷ [])
-pass_writeback w h none = pass w h Wb (Cm ∷ Dq ∷ Dn 0 ∷ Tk ∷ []) none
-
-pub pass_dispatcher : (w : Workload) (h : List Event) → next w h Wb ≡ None → next w h Dq ≡ None
-    → first_next w h others ≡ next w h (Dn 0)
-pass_dispatcher w h none wait = pass_writeback w h none ∙ pass w h Dq (Dn 0 ∷ Tk ∷ []) wait ∙ last (next w h (Dn 0))
-  where
-    last : (o : Option Event) → (elim o [ Some e ↦ Some e | None ↦ None ]) ≡ o
-    last None = refl
-    last (Some e) = refl
 
 -- a next event is that of its maker
 pub comes : (w : Workload) (h : List Event) (a : Actor) (e : Event) → next w h a ≡ Some e → next w h (maker e) ≡ Some e
@@ -164,28 +147,30 @@ asks w plan p h v behind stands same is = subst (λ s. behind
           ∙ ap (λ o. first_of o (first_next w h others)) (sym from);
     }
 
-pub client_asks : (v : Simulation) (e : Event) → Asks v (Some e)
-    → Some e ≡ first_next v.workload v.history (turn_order v.workload)
-client_asks v e here = sym here.turn
+-- where the history isn't drained a turn makes the event of the first actor that has one
+turn_open : (v : Simulation) (o : Option Event) → is_drained v.workload v.history ≡ false
+    → first_next v.workload v.history (turn_order v.workload) ≡ o → turn v.workload v.history ≡ o
+turn_open v o going is = by_drained (is_drained v.workload v.history) going ∙ is
+  where
+    by_drained : (b : Bool) → b ≡ false → (let nothing : Option Event = None in
+        if b then nothing else first_next v.workload v.history (turn_order v.workload))
+        ≡ first_next v.workload v.history (turn_order v.workload)
+    by_drained true e = absurd (cc)
+    by_drained false e = refl
 
-pub writeback_asks : (v : Simulation) (e : Event) → Asks v None → next v.workload v.history Wb ≡ Some e
-    → Some e ≡ first_next v.workload v.history (turn_order v.workload)
-writeback_asks v e here wb = sym (here.turn ∙ hit v.workload v.history Wb (Cm ∷ Dq ∷ Dn 0 ∷ Tk ∷ []) e wb)
+-- a turn of the first process that has a next event
+pub clients_turn : (v : Simulation) (e : Event) → is_drained v.workload v.history ≡ false → Asks v (Some e)
+    → turn v.workload v.history ≡ Some e
+clients_turn v e going here = turn_open v (Some e) going here.turn
 
-pub dispatcher_asks : (v : Simulation) (e : Event) → Asks v None → next v.workload v.history Wb ≡ None
-    → next v.workload v.history Dq ≡ Some e → Some e ≡ first_next v.workload v.history (turn_order v.workload)
-dispatcher_asks v e here wb dq = sym (here.turn ∙ pass_writeback v.workload v.history wb
-    ∙ hit v.workload v.history Dq (Dn 0 ∷ Tk ∷ []) e dq)
+-- and where no process has one, of the first other actor
+pub others_turn : (v : Simulation) (e : Event) → is_drained v.workload v.history ≡ false → Asks v None
+    → first_next v.workload v.history others ≡ Some e → turn v.workload v.history ≡ Some e
+others_turn v e going here is = turn_open v (Some e) going (here.turn ∙ is)
 
-pub completion_asks : (v : Simulation) → Asks v None → next v.workload v.history Wb ≡ None
-    → next v.workload v.history Dq ≡ None → next v.workload v.history (Dn 0)
-    ≡ first_next v.workload v.history (turn_order v.workload)
-completion_asks v here wb dq = sym (here.turn ∙ pass_dispatcher v.workload v.history wb dq)
-
-pub none_drained : (v : Simulation) → Asks v None → (o : Option Event)
-    → o ≡ first_next v.workload v.history (turn_order v.workload) → IfNone o (is_drained v.workload v.history ≡ true)
-none_drained v here None is = never_stuck v.workload v.history here.accepted here.legal (sym is)
-none_drained v here (Some e) is = tt
+pub none_drained : (v : Simulation) → Asks v None → first_next v.workload v.history others ≡ None
+    → is_drained v.workload v.history ≡ true
+none_drained v here is = never_stuck v.workload v.history here.accepted here.legal (here.turn ∙ is)
 
 -- ---- the turns of `go` lines
 -- the turns of two lists are those of the first and then those of the second

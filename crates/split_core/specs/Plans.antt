@@ -1,16 +1,14 @@
 -- What a plan has to do with its workload.
-use Rattle.std.specs.Prelude.{◌≡◌, ℕ, ◌+◌, ◌<◌, List, [], length, map, filter, slice_get, slice_index_or}
-use Rattle.std.specs.Prelude.{Some}
-use Rattle.split_types.specs.declared.ids.Pid.{Pid}
+use Rattle.std.specs.Prelude.{◌≡◌, ℕ, ◌+◌, ◌<◌, List, [], length, slice_index_or}
 use Rattle.split_types.specs.declared.call.Call.{Call}
 use Rattle.split_types.specs.declared.workload.Workload.{Workload}
-use Rattle.split_types.specs.Workloads.{is_call_of}
+use Rattle.split_types.specs.Workloads.{calls_of}
 use Rattle.split_core.specs.declared.plan.Plan.{Plan}
 
--- these are the places, among all calls, of those of process p
-abbrev pub ArePlaces : List (Pid × Call) → ℕ → List ℕ → Type 0
-ArePlaces calls p places = map (slice_get calls) places ≡ map Some (filter (is_call_of p) calls)
+-- these are the calls of each process
+pub record AreCalls (w : Workload) (lists : List (List Call)) : Type 0 where
+  pub callers : length lists ≡ length w.procs
+  pub calls : (i : ℕ) → i < length w.procs → slice_index_or lists i [] ≡ calls_of w (i + 1)
 
 pub record PlanStands (w : Workload) (p : Plan) : Type 0 where
-  pub callers : length p.calls.items ≡ length w.procs
-  pub calls_are : (i : ℕ) → i < length w.procs → ArePlaces w.calls (i + 1) (slice_index_or p.calls.items i [])
+  pub calls_are : AreCalls w p.calls.items

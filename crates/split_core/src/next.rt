@@ -5,7 +5,7 @@ ghost use Rattle.split_types.specs.Next.{next_of_dispatcher, next_of_completion,
 ghost use Rattle.split_core.specs.Clients.{IsProgress};
 
 use crate::machine::Core;
-use client_calls::{ClientNext, ClientView, Progress, next_of};
+use client_calls::{ClientView, Progress, next_event};
 use cost_model::cost;
 use split_types::{Actor, Event, Pid, ReqId, Serial};
 
@@ -31,29 +31,6 @@ impl Core {
         }
     }
 
-    /// The next event of a process, by what it sees.
-    fn next_by_view(&self, p: Pid) -> Option<Event>
-        requires first { 1 ≤ p.0 }
-        requires last { p.0 ≤ length self.now.workload.procs }
-        ensures { result ≡ next self.now.workload self.now.history (Actor.Client p) }
-    {
-        let view = ClientView {
-            cache: &self.parts.pages.cache,
-            places: self.workload.cache,
-            n: self.workload.procs.len() as u32,
-            fs: &self.parts.filing.fs,
-            alloc: &self.parts.filing.alloc,
-            mapped: self.mapped(),
-            progress: self.progress(p),
-            may_admit: true,
-            next_id: ReqId(self.parts.book.entries.len() as u32),
-        };
-        match next_of(p, &view) {
-            ClientNext::Act(e) => Some(e),
-            ClientNext::Nothing | ClientNext::Wait => None,
-        }
-    }
-
     /// Whether the file that a call is bound to is still there.
     fn is_there(&self, file: Option<Serial>) -> bool
         ensures { result ≡ is_some (if_live self.now.workload self.now.history file) }
@@ -72,10 +49,20 @@ impl Core {
     {
         let client = self.parts.clients.client(&self.workload, &self.history, p);
         if client.awaits && self.is_there(client.file) {
-            None
-        } else {
-            self.next_by_view(p)
+            return None;
         }
+        let view = ClientView {
+            cache: &self.parts.pages.cache,
+            places: self.workload.cache,
+            n: self.workload.procs.len() as u32,
+            fs: &self.parts.filing.fs,
+            alloc: &self.parts.filing.alloc,
+            mapped: self.mapped(),
+            progress: self.progress(p),
+            may_admit: true,
+            next_id: ReqId(self.parts.book.entries.len() as u32),
+        };
+        next_event(p, &view)
     }
 
     /// The next event of the dispatcher: where fewer requests than the depth are in flight, the oldest queued

@@ -1,10 +1,10 @@
 //! The parts together, and what one hands to another.
 ghost use Rattle.std.specs.Prelude.{◌≡◌, ◌<◌, ◌&&◌, List, [], true, Some, None, not, is_none, count_by, IfOk, OnOk};
-ghost use Rattle.std.specs.Option.{option_copied};
+ghost use Rattle.std.specs.Option.{option_copied, option_map};
 ghost use Rattle.split_types.specs.declared.workload.Workload.{Workload};
 ghost use Rattle.split_types.specs.declared.event.Event.{Event};
 ghost use Rattle.split_types.specs.History.{◌▹◌, adds};
-ghost use Rattle.split_types.specs.Calls.{call_of};
+ghost use Rattle.split_types.specs.Calls.{call_of, name_of};
 ghost use Rattle.split_types.specs.declared.event.Event.TheVariants as event;
 ghost use Rattle.split_types.specs.declared.buf.Buf.TheVariants as buf;
 ghost use Rattle.split_types.specs.Legal.{IsLegal};
@@ -96,9 +96,10 @@ fn asks(e: &Event) -> bool
 
 impl Given {
     /// Nothing.
-    fn none() -> Given
+    pub(crate) fn none() -> Given
         ensures file { result.file ≡ None }
         ensures size { result.size ≡ 0 }
+        ensures name { result.name ≡ None }
     {
         Given {
             file: None,
@@ -205,7 +206,7 @@ impl Parts {
     }
 
     /// The call of a process that is under way, or else its next one.
-    fn call_of<'a>(&self, w: &'a Workload, plan: &Plan, h: &History, p: Pid) -> Option<&'a Call>
+    fn call_of<'a>(&self, w: &Workload, plan: &'a Plan, h: &History, p: Pid) -> Option<&'a Call>
         requires accepted { IsAccepted w.now }
         requires plan { PlanStands w.now plan.now }
         requires stands { PartsStand w.now self.now h.now.events }
@@ -216,58 +217,49 @@ impl Parts {
         plan.call(w, p, returned)
     }
 
-    /// The file that a call works on where it is admitted now, and the file's size.
-    fn given_for(&self, w: &Workload, h: &History, call: &Call) -> Given
+    /// Hands on the file that a call works on where it is admitted now, and the file's size.
+    fn give_file(&self, w: &Workload, h: &History, call: &Call, given: &mut Given)
         requires accepted { IsAccepted w.now }
         requires legal { IsLegal w.now h.now.events }
         requires stands { PartsStand w.now self.now h.now.events }
-        ensures file { result.file ≡ file_for w.now h.now.events (Some call.now) }
-        ensures size { result.size ≡ size_of_some w.now h.now.events (file_for w.now h.now.events (Some call.now)) }
+        requires file { given.old.file ≡ None }
+        requires size { given.old.size ≡ 0 }
+        ensures file { given.new.file ≡ file_for w.now h.now.events (Some call.now) }
+        ensures size { given.new.size ≡ size_of_some w.now h.now.events (file_for w.now h.now.events (Some call.now)) }
     {
-        let mut given = Given::none();
         if let Some(slot) = self.filing.slot_for(w, h, call) {
             given.file = Some(self.filing.fs.serial_of(slot));
             given.size = self.filing.fs.size_of(slot);
         }
-        given
     }
 
     /// What is handed on of a call that is admitted.
-    fn given_admit(&self, w: &Workload, plan: &Plan, h: &History, p: Pid) -> Given
+    fn give_admit(&self, w: &Workload, plan: &Plan, h: &History, p: Pid, given: &mut Given)
         requires accepted { IsAccepted w.now }
         requires plan { PlanStands w.now plan.now }
         requires stands { PartsStand w.now self.now h.now.events }
         requires fits { Fits w.now h.now.events (event.Admit p) }
-        ensures { IsGiven w.now h.now.events (event.Admit p) result }
+        requires file { given.old.file ≡ None }
+        requires size { given.old.size ≡ 0 }
+        ensures { IsGiven w.now h.now.events (event.Admit p) given.new }
     {
-        match self.call_of(w, plan, h, p) {
-            None => Given::none(),
-            Some(call) => self.given_for(w, h, call),
+        if let Some(call) = self.call_of(w, plan, h, p) {
+            self.give_file(w, h, call, given);
         }
     }
 
-    /// What is handed on of a file that is made.
-    fn given_make(
-        &self,
-        w: &Workload,
-        plan: &Plan,
-        h: &History,
-        by: Pid,
-        slot: Slot,
-        serial: Serial,
-    ) -> Given
+    /// What is handed on of a file that is made by a process.
+    fn give_make(&self, w: &Workload, plan: &Plan, h: &History, by: Pid, given: &mut Given)
         requires accepted { IsAccepted w.now }
         requires plan { PlanStands w.now plan.now }
         requires stands { PartsStand w.now self.now h.now.events }
-        requires fits { Fits w.now h.now.events (event.Make by slot serial) }
-        ensures { IsGiven w.now h.now.events (event.Make by slot serial) result }
+        requires client { ClientFits w.now h.now.events by }
+        requires name { given.old.name ≡ None }
+        ensures { given.new.name ≡ option_map name_of (call_of w.now h.now.events by.0) }
     {
-        let mut given = Given::none();
-        given.name = match self.call_of(w, plan, h, by) {
-            None => None,
-            Some(call) => Some(*name_of(call)),
-        };
-        given
+        if let Some(call) = self.call_of(w, plan, h, by) {
+            given.name = Some(*name_of(call));
+        }
     }
 
     /// Whether a page that is put needs the promise of a free block.
@@ -284,44 +276,41 @@ impl Parts {
     }
 
     /// What is handed on of a request that is done.
-    fn given_done(&self, w: &Workload, h: &History, id: ReqId) -> Given
+    fn give_done(&self, w: &Workload, h: &History, id: ReqId, given: &mut Given)
         requires book { BookStands self.now.book h.now.events }
         requires added { id.0 < adds h.now.events }
-        ensures { GivenDone w.now h.now.events id.0 result }
+        ensures { GivenDone w.now h.now.events id.0 given.new }
     {
         let entry = self.book.entry(h, id);
-        let mut given = Given::none();
         given.request = Some(entry.request);
         given.cost = entry.cost;
         given.tag = entry.tag;
-        given
     }
 
-    /// What the parts hand to each other with an event.
-    pub(crate) fn given(&self, w: &Workload, plan: &Plan, h: &History, e: &Event) -> Given
+    /// Says what the parts hand to each other with an event, where nothing is said yet.
+    pub(crate) fn give(&self, w: &Workload, plan: &Plan, h: &History, e: &Event, given: &mut Given)
         requires accepted { IsAccepted w.now }
         requires plan { PlanStands w.now plan.now }
         requires stands { PartsStand w.now self.now h.now.events }
         requires fits { Fits w.now h.now.events e.now }
-        ensures { IsGiven w.now h.now.events e.now result }
+        requires file { given.old.file ≡ None }
+        requires size { given.old.size ≡ 0 }
+        requires name { given.old.name ≡ None }
+        ensures { IsGiven w.now h.now.events e.now given.new }
     {
-        let mut given = Given::none();
         match *e {
-            Event::Admit { by } => given = self.given_admit(w, plan, h, by),
-            Event::Make { by, slot, serial } => given = self.given_make(
-                w, plan, h, by, slot, serial,
-            ),
-            Event::Put { serial, page, .. } => given.promise = self.is_promise_due(
-                w, h, serial, page,
-            ),
-            Event::Drop { slot, serial, .. } => given.promised = self.promises_of(
-                w, h, slot, serial,
-            ),
+            Event::Admit { by } => self.give_admit(w, plan, h, by, given),
+            Event::Make { by, .. } => self.give_make(w, plan, h, by, given),
+            Event::Put { serial, page, .. } => {
+                given.promise = self.is_promise_due(w, h, serial, page)
+            }
+            Event::Drop { slot, serial, .. } => {
+                given.promised = self.promises_of(w, h, slot, serial)
+            }
             Event::Send { id, .. } => given.request = Some(self.book.entry(h, id).request),
-            Event::Done { id, .. } => given = self.given_done(w, h, id),
+            Event::Done { id, .. } => self.give_done(w, h, id, given),
             _ => {}
         }
-        given
     }
 
     /// Whether a free block is promised to a page of a file that is there.

@@ -1,22 +1,21 @@
 //! What the workload alone fixes.
-ghost use Rattle.std.specs.Prelude.{◌≡◌, ℕ, ◌+◌, ◌<◌, ◌≤◌, length, slice_get, slice_index_or, replicate, [], IfOk};
+ghost use Rattle.std.specs.Prelude.{◌≡◌, ℕ, ◌≤◌, length, slice_get, replicate, [], IfOk};
 ghost use Rattle.std.specs.Option.{option_copied};
 ghost use Rattle.split_types.specs.Workloads.{calls_of};
 ghost use Rattle.split_types.specs.Accepted.{IsAccepted};
-ghost use Rattle.split_core.specs.Plans.{ArePlaces, PlanStands};
+ghost use Rattle.split_core.specs.Plans.{AreCalls, PlanStands};
 
 use split_types::{Call, List, Pid, Workload};
 use std::alloc::{AllocError, Global};
 
-/// Where the calls of each process stand.
+/// The calls of each process. They stand one behind another, since a process goes through its own.
 #[derive(Debug, Drop)]
 pub(crate) struct Plan {
-    /// The places of each process's calls among those of the workload.
-    pub(crate) calls: Vec<List<u32>>,
+    pub(crate) calls: Vec<List<Call>>,
 }
 
 /// So many processes without a call.
-fn no_calls(alloc: Global, n: usize) -> Result<Vec<List<u32>>, AllocError>
+fn no_calls(alloc: Global, n: usize) -> Result<Vec<List<Call>>, AllocError>
     ensures { IfOk result (λ v. v.items ≡ replicate n []) }
 {
     let mut calls = Vec::new(alloc);
@@ -26,16 +25,14 @@ fn no_calls(alloc: Global, n: usize) -> Result<Vec<List<u32>>, AllocError>
     Ok(calls)
 }
 
-/// The places of each process's calls.
-fn places_of_calls(alloc: Global, w: &Workload) -> Result<Vec<List<u32>>, AllocError>
+/// The calls of each process.
+fn calls_by_process(alloc: Global, w: &Workload) -> Result<Vec<List<Call>>, AllocError>
     requires { IsAccepted w.now }
-    ensures callers { IfOk result (λ v. length v.items ≡ length w.now.procs) }
-    ensures calls { IfOk result (λ v. (i : ℕ) → i < length w.now.procs
-        → ArePlaces w.now.calls (i + 1) (slice_index_or v.items i [])) }
+    ensures { IfOk result (λ v. AreCalls w.now v.items) }
 {
     let mut calls = no_calls(alloc, w.procs.len())?;
-    for (i, call) in w.calls.as_slice().iter().enumerate() {
-        calls[(call.0.0 - 1) as usize].push(i as u32)?;
+    for call in w.calls.as_slice() {
+        calls[(call.0.0 - 1) as usize].push(call.1)?;
     }
     Ok(calls)
 }
@@ -46,7 +43,7 @@ impl Plan {
         requires { IsAccepted w.now }
         ensures { IfOk result (λ p. PlanStands w.now p) }
     {
-        let calls = places_of_calls(alloc, w)?;
+        let calls = calls_by_process(alloc, w)?;
         Ok(Plan { calls })
     }
 
@@ -61,14 +58,14 @@ impl Plan {
     }
 
     /// The call of this number of a process, if it has so many.
-    pub(crate) fn call<'a>(&self, w: &'a Workload, p: Pid, number: u32) -> Option<&'a Call>
+    pub(crate) fn call(&self, w: &Workload, p: Pid, number: u32) -> Option<&Call>
         requires stands { PlanStands w.now self.now }
         requires first { 1 ≤ p.0 }
         requires last { p.0 ≤ length w.now.procs }
         ensures { option_copied result ≡ slice_get (calls_of w.now p.0) number }
     {
-        let places = &self.calls[(p.0 - 1) as usize];
-        let place = places.as_slice().get(number as usize)?;
-        Some(&w.calls.at(*place as usize).1)
+        self.calls[(p.0 - 1) as usize]
+            .as_slice()
+            .get(number as usize)
     }
 }

@@ -1,12 +1,13 @@
 //! The steps of the core, the turns that a workload's `go` lines ask for, and the draining of its history.
-ghost use Rattle.std.specs.Prelude.{◌≡◌, ◌+◌, ◌*◌, ◌≤◌, length, true, replicate, Some, IfNone, IfOk, OnOk, OnErr};
+ghost use Rattle.std.specs.Prelude.{◌≡◌, ◌+◌, ◌*◌, ◌≤◌, length, false, replicate, Some, IfOk, OnOk, OnErr};
 ghost use Rattle.split_types.specs.History.{◌▹◌};
 ghost use Rattle.split_types.specs.Hooks.{maker};
 ghost use Rattle.split_types.specs.Next.{next};
-ghost use Rattle.split_types.specs.Legal.{is_drained, first_next, turn_order, go_actors, play, drain};
-ghost use Rattle.split_core.specs.Steps.{clients_from, Appends, StepsTo, TurnsTo};
+ghost use Rattle.split_types.specs.Legal.{is_drained, first_next, go_actors, play, drain};
+ghost use Rattle.split_core.specs.Steps.{clients_from, others, Appends, StepsTo, FirstStepsTo, TurnsTo};
 
 use crate::machine::Core;
+use crate::parts::Given;
 use hook_events::Steps;
 use split_types::{Actor, Event, Pid};
 use std::alloc::AllocError;
@@ -31,9 +32,9 @@ impl Core {
         let place = self.history.len() as u32;
         self.history.room(1)?;
         self.parts.room(self.alloc, e)?;
-        let given = self
-            .parts
-            .given(&self.workload, &self.plan, &self.history, e);
+        let mut given = Given::none();
+        self.parts
+            .give(&self.workload, &self.plan, &self.history, e, &mut given);
         self.parts.note(
             self.alloc,
             &self.workload,
@@ -46,6 +47,17 @@ impl Core {
         Ok(place)
     }
 
+    /// Makes the next event of an actor, if it has one. After `Idle`, and where memory ran out, nothing has changed.
+    fn act_once(&mut self, a: Actor) -> Result<Step, AllocError>
+        ensures ok { IfOk result (λ step. StepsTo a self.old self.new step) }
+        ensures err { OnErr result (self.new ≡ self.old) }
+    {
+        match &self.next(a) {
+            None => Ok(Step::Idle),
+            Some(e) => Ok(Step::Made(self.make(e)?)),
+        }
+    }
+
     /// One step of an actor: its next event, if it has one. After `Idle`, and where memory ran out, nothing
     /// has changed. It reads at most 64 events.
     pub fn step<L: Ledger>(&mut self, a: Actor, steps: &mut Steps<L>) -> Result<Step, AllocError>
@@ -53,35 +65,28 @@ impl Core {
         ensures err { OnErr result (self.new ≡ self.old) }
         ensures cost { steps.new ≤ steps.old + 64 }
     {
-        match self.next(a) {
-            None => Ok(Step::Idle),
-            Some(e) => Ok(Step::Made(self.make(&e)?)),
-        }
+        self.act_once(a)
     }
 
-    /// The next event of the first process, behind so many, that has one.
-    fn first_of_clients(&self, behind: u32) -> Option<Event>
-        requires { behind ≤ length self.now.workload.procs }
-        ensures { result ≡ first_next self.now.workload self.now.history (clients_from self.now.workload behind) }
+    /// Makes the next event of the first process, behind so many, that has one.
+    fn act_of_clients(&mut self, behind: u32) -> Result<Step, AllocError>
+        requires { behind ≤ length self.old.workload.procs }
+        ensures ok { IfOk result (λ step. FirstStepsTo (clients_from self.old.workload behind) self.old self.new step) }
+        ensures err { OnErr result (self.new ≡ self.old) }
     {
         let n = self.workload.procs.len() as u32;
         for i in behind..n {
-            if let Some(e) = self.next_of_client(Pid(i + 1)) {
-                return Some(e);
+            if let Some(e) = &self.next_of_client(Pid(i + 1)) {
+                return Ok(Step::Made(self.make(e)?));
             }
         }
-        None
+        Ok(Step::Idle)
     }
 
-    /// The next event of the first actor, in the order of turns, that has one.
-    fn first_next(&self) -> Option<Event>
-        ensures first { result ≡ first_next self.now.workload self.now.history (turn_order self.now.workload) }
-        ensures none { IfNone result (is_drained self.now.workload self.now.history ≡ true) }
+    /// The next event of the first actor, but for the processes, that has one, in the order of turns.
+    fn first_of_others(&self) -> Option<Event>
+        ensures { result ≡ first_next self.now.workload self.now.history others }
     {
-        let finished = self.parts.clients.finished;
-        if let Some(e) = self.first_of_clients(finished) {
-            return Some(e);
-        }
         if let Some(e) = self.next(Actor::Wb) {
             return Some(e);
         }
@@ -89,6 +94,22 @@ impl Core {
             return Some(e);
         }
         self.next(Actor::Dn(0))
+    }
+
+    /// Makes the next event of the first actor, in the order of turns, that has one.
+    fn act_first(&mut self) -> Result<Step, AllocError>
+        requires { is_drained self.old.workload self.old.history ≡ false }
+        ensures ok { IfOk result (λ step. TurnsTo self.old self.new step) }
+        ensures err { OnErr result (self.new ≡ self.old) }
+    {
+        let finished = self.parts.clients.finished;
+        if let Step::Made(place) = self.act_of_clients(finished)? {
+            return Ok(Step::Made(place));
+        }
+        match &self.first_of_others() {
+            None => Ok(Step::Idle),
+            Some(e) => Ok(Step::Made(self.make(e)?)),
+        }
     }
 
     /// The step that drains the history by one event. After `Idle`, which comes where the history is
@@ -102,10 +123,7 @@ impl Core {
         if self.drained() {
             return Ok(Step::Idle);
         }
-        match self.first_next() {
-            None => Ok(Step::Idle),
-            Some(e) => Ok(Step::Made(self.make(&e)?)),
-        }
+        self.act_first()
     }
 
     /// Lets an actor act so often. Where it has no next event it has none in the turns that are left.

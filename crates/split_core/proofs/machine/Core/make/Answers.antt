@@ -21,8 +21,8 @@ overflow_cast-place c =
       c.len-place.ensures,
     )
 
-pub given-given-requires-clause-fits : goal.given-given-requires-clause-fits
-given-given-requires-clause-fits c =
+pub give-requires-clause-fits : goal.give-requires-clause-fits
+give-requires-clause-fits c =
     let i = c.self.inside in
     let comes = ap (λ (v : Simulation). next v.workload v.history (maker c.args.e.now)) c.self.view_is ∙ c.requires in
     rw c.room.ensures.events (fits i.workload i.history.events

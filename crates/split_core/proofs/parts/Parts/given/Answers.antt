@@ -1,5 +1,0 @@
--- What is handed on of a drop is how many pages of its file have promises.
-use Rattle.split_core.proofs.parts.Parts.given.Goals as goal
-
-pub returns-in-Drop : goal.returns-in-Drop
-returns-in-Drop c = rw c.in-Drop.is c.promises_of.ensures
