@@ -8,10 +8,9 @@ use Rattle.split_types.specs.declared.call.Call.{Call}
 use Rattle.split_types.specs.declared.call.Call.TheVariants.{Creat, Write, Read, Fsync, Unlink}
 use Rattle.split_types.specs.declared.workload.Workload.{Workload}
 use Rattle.split_types.specs.Workloads.{preset_pages, first_block, calls_of, is_call_of}
-use Rattle.split_types.specs.IsWorkload.{IsCall, most_processes}
-use Rattle.split_types.specs.Accepted.{IsAccepted, IsBuiltCall}
+use Rattle.split_types.specs.IsWorkload.{IsCall, IsAsked, most_processes}
+use Rattle.split_types.specs.Accepted.{IsAccepted}
 use Rattle.split_types.specs.Pieces.{bytes_to_move}
-use Rattle.split_types.specs.Proving.Pieces.{IsTaken}
 use Rattle.split_types.proofs.Lists.{all_at, filter_there, map_there}
 
 -- data begins at block 526 or behind it, and there are at most 32 processes
@@ -36,16 +35,14 @@ pub data_within : (w : Workload) → IsAccepted w → first_block w + preset_pag
 data_within w accepted =
     omega (arith, accepted.workload.presets.fit, accepted.workload.machine.device_most)
 
--- each call of a process is one that may be asked for, and is built
-pub call_is : (w : Workload) → IsAccepted w → (p i : ℕ) (c : Call) → slice_get (calls_of w p) i ≡ Some c → IsTaken c
+-- each call of a process is one that may be asked for
+pub call_is : (w : Workload) → IsAccepted w → (p i : ℕ) (c : Call) → slice_get (calls_of w p) i ≡ Some c → IsAsked c
 call_is w accepted p i c at =
     let from = map_there (λ (x : Pid × Call). x.1) _ i c at
     in let line = filter_there (is_call_of p) w.calls i from.0 from.1
     in let asked : IsCall (length w.procs) from.0 =
     all_at (IsCall (length w.procs)) w.calls line.0 from.0 accepted.workload.calls.each line.1
-    in let built : IsBuiltCall from.0.1 =
-    all_at (λ (x : Pid × Call). IsBuiltCall x.1) w.calls line.0 from.0 accepted.built.calls line.1
-    in subst IsTaken from.2 (record { asked = asked.asked; built = built })
+    in subst IsAsked from.2 asked.asked
 
 -- a process has no more calls than there are
 pub calls_most : (w : Workload) (p : ℕ) → length (calls_of w p) ≤ length w.calls
@@ -56,9 +53,9 @@ calls_most w p = omega (
 )
 
 -- no call moves more bytes than a file has
-pub moves_most : (c : Call) (size : ℕ) → IsTaken c → bytes_to_move c size ≤ 4128768
-moves_most (Creat name) size taken = omega arith
-moves_most (Write name off len fill) size taken = taken.asked.0.len_most
-moves_most (Read name off len) size taken = omega (arith, taken.asked.len_most)
-moves_most (Fsync name) size taken = omega arith
-moves_most (Unlink name) size taken = omega arith
+pub moves_most : (c : Call) (size : ℕ) → IsAsked c → bytes_to_move c size ≤ 4128768
+moves_most (Creat name) size asked = omega arith
+moves_most (Write name off len fill) size asked = asked.0.len_most
+moves_most (Read name off len) size asked = omega (arith, asked.len_most)
+moves_most (Fsync name) size asked = omega arith
+moves_most (Unlink name) size asked = omega arith

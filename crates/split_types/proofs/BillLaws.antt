@@ -20,10 +20,10 @@ use Rattle.split_types.specs.Workloads.{processes}
 use Rattle.split_types.specs.Accepted.{IsAccepted}
 use Rattle.split_types.specs.Legal.{IsLegal}
 use Rattle.split_types.specs.LegalHistories.{IsBorneWhole, completions, BillsConserve, PartsAreTags}
-use Rattle.split_types.specs.Proving.Came.{Came, read_request}
+use Rattle.split_types.specs.Proving.Came.{Came, read_request, journal_request}
 use Rattle.split_types.specs.Proving.Came.Came.{came_enter, came_admit, came_changed, came_exists, came_no_slot, came_make, came_drop, came_no_file, came_too_big}
 use Rattle.split_types.specs.Proving.Came.Came.{came_wrote, came_read, came_fault, came_no_space, came_put, came_get, came_zeros, came_evict, came_load}
-use Rattle.split_types.specs.Proving.Came.Came.{came_serve, came_skip, came_map, came_grow, came_add, came_send, came_done}
+use Rattle.split_types.specs.Proving.Came.Came.{came_flushed, came_synced, came_seal, came_journal, came_serve, came_skip, came_map, came_grow, came_add, came_send, came_done}
 use Rattle.split_types.specs.Proving.Known.{Known, AreOf}
 use Rattle.split_types.proofs.CameLaws.{came}
 use Rattle.split_types.proofs.KnownLaws.{known, flight_of}
@@ -176,6 +176,12 @@ once_next w h e f (came_grow run block serves there at short) o = o
 once_next w h e f (came_add run block at there placed known) o =
     once_add (requests h) (unfinished h) (adds h) (completions h)
     (request_for (adds h) run block) f.waiting.left_of f.numbered.counted refl o
+once_next w h e f (came_flushed q name s working idle down) o = o
+once_next w h e f (came_synced q name s working acted safe) o = o
+once_next w h e f (came_seal may) o = o
+once_next w h e f (came_journal kind first n j) o =
+    once_add (requests h) (unfinished h) (adds h) (completions h)
+    (journal_request (adds h) kind first n) f.waiting.left_of f.numbered.counted refl o
 once_next w h e f (came_send r free picked) o = o
 once_next w h e f (came_done k r at) o =
     once_done (unfinished h) (adds h) (completions h) r.id (flight_of w h k r f at).below

@@ -1,17 +1,18 @@
 -- A legal history of an accepted workload stays below the bound.
-use Rattle.std.proofs.Common.{◌≡◌, ℕ, ◌+◌, ◌*◌, ◌==◌, ◌<◌, ◌≤◌, ◌^◌, List, [], ◌∷◌, length, Bool, true, false, not, ◌||◌, Option, Some, None, is_some, refl, arith, ap, subst, cond, sum_by, inl, inr, if◌then◌else◌}
-use Rattle.std.specs.List.{range_with_len}
-use Rattle.std.proofs.lemmas.Bool.{cases_Bool, eq-eqb}
+use Rattle.std.proofs.Common.{◌≡◌, ℕ, ◌+◌, ◌*◌, ◌==◌, ◌<◌, ◌≤◌, ◌^◌, List, [], ◌∷◌, length, Bool, true, false, not, ◌||◌, Option, Some, None, is_some, refl, arith, ap, subst, cond, sum_by, inl, inr}
+use Rattle.std.proofs.lemmas.Bool.{cases_Bool}
 use Rattle.std.proofs.lemmas.Option.{get_or_from_slice_get}
 use Rattle.std.proofs.lemmas.List.Sums.{sum_by-le-sum_by, sum_by_more, sum_by-take-le, sum_by-cons}
 use Rattle.split_types.specs.declared.ids.Pid.{Pid}
 use Rattle.split_types.specs.declared.ids.Serial.{Serial}
 use Rattle.split_types.specs.declared.ids.Slot.{Slot}
 use Rattle.split_types.specs.declared.call.Call.{Call}
-use Rattle.split_types.specs.declared.call.Call.TheVariants.{Creat, Write, Read}
+use Rattle.split_types.specs.declared.call.Call.TheVariants.{Creat, Write, Read, Fsync}
 use Rattle.split_types.specs.declared.call.Reply.{Reply}
 use Rattle.split_types.specs.declared.call.Reply.TheVariants as reply
-use Rattle.split_types.specs.declared.actor.Actor.TheVariants.{Wb}
+use Rattle.split_types.specs.declared.actor.Actor.TheVariants.{Wb, Cm}
+use Rattle.split_types.specs.declared.request.ReqKind.{ReqKind}
+use Rattle.split_types.specs.declared.request.ReqKind.TheVariants.{Log, Commit, Home, Clear}
 use Rattle.split_types.specs.declared.request.Run.{Run}
 use Rattle.split_types.specs.declared.request.Service.{Service}
 use Rattle.split_types.specs.declared.request.Service.TheVariants.{Serving}
@@ -21,6 +22,7 @@ use Rattle.split_types.specs.declared.event.Event.TheVariants.{Make, Get, Drop, 
 use Rattle.split_types.specs.History.{◌▹◌, adds}
 use Rattle.split_types.specs.Hooks.{maker}
 use Rattle.split_types.specs.Requests.{sends}
+use Rattle.split_types.specs.Rounds.{seals}
 use Rattle.split_types.specs.Workloads.{processes, calls_of, span, spans}
 use Rattle.split_types.specs.Accepted.{IsAccepted}
 use Rattle.split_types.specs.Calls.{moved}
@@ -28,37 +30,33 @@ use Rattle.split_types.specs.Files.{is_live}
 use Rattle.split_types.specs.FileSlots.{next_serial, slot_of}
 use Rattle.split_types.specs.PageBytes.{sum_of_bytes}
 use Rattle.split_types.specs.Pieces.{got}
-use Rattle.split_types.specs.Writeback.{service, served_run}
+use Rattle.split_types.specs.Writeback.{after_add, service, served_run}
 use Rattle.split_types.specs.MapsInOrder.{AreMaps, IsServed}
-use Rattle.split_types.specs.Proving.Came.{Came, HasCall}
+use Rattle.split_types.specs.Proving.Came.{Came, HasCall, Journals, journal_request}
 use Rattle.split_types.specs.Proving.Came.Came.{came_enter, came_admit, came_changed, came_exists, came_no_slot, came_make, came_drop, came_no_file, came_too_big}
 use Rattle.split_types.specs.Proving.Came.Came.{came_wrote, came_read, came_fault, came_no_space, came_put, came_get, came_zeros, came_evict, came_load}
-use Rattle.split_types.specs.Proving.Came.Came.{came_serve, came_skip, came_map, came_grow, came_add, came_send, came_done}
+use Rattle.split_types.specs.Proving.Came.Came.{came_flushed, came_synced, came_seal, came_journal, came_serve, came_skip, came_map, came_grow, came_add, came_send, came_done}
 use Rattle.split_types.specs.Legal.{IsLegal}
 use Rattle.split_types.specs.Proving.Known.{dones}
 use Rattle.split_types.specs.Draining.{StaysBelow}
 use Rattle.split_types.proofs.CameLaws.{came}
 use Rattle.split_types.proofs.KnownLaws.{known, maps_known}
 use Rattle.split_types.proofs.Lists.{some_at}
-use Rattle.split_types.proofs.SumLaws.{sum_by_raised, sum_by_both, sum_of, sum_of_each}
+use Rattle.split_types.proofs.SumLaws.{sum_by_both, sum_of, sum_of_each}
 use Rattle.split_types.proofs.WorkLaws.{WorkAt, Work, ChangesAt, Changes, acts, changes, pieces, stage, work_kept}
 use Rattle.split_types.proofs.WorkLaws.{changes_kept}
 use Rattle.split_types.proofs.DirtyLaws.{dirty_pages, serves_live, dirty_none, dirty_put, dirty_load, dirty_add}
-use Rattle.split_types.proofs.DirtyLaws.{dirty_make, dirty_drop}
+use Rattle.split_types.proofs.DirtyLaws.{dirty_make, dirty_drop, dirty_journal}
 use Rattle.split_types.proofs.EvictLaws.{evicts, placed_pages, placed_done, placed_evict}
 use Rattle.split_types.proofs.LoadLaws.{loads, AsksAt, asked}
+use Rattle.split_types.proofs.JournalAdds.{of_journal}
+use Rattle.split_types.proofs.BoundJournal.{maps, journal_adds, one_more, journal_tally}
 
 -- the number of serves
 abbrev pub serves : List Event → ℕ
 serves [] = 0
 serves (h ▹ Serve serial page n) = serves h + 1
 serves (h ▹ e) = serves h
-
--- the number of maps
-abbrev pub maps : List Event → ℕ
-maps [] = 0
-maps (h ▹ Map slot serial page n block new size) = maps h + 1
-maps (h ▹ e) = maps h
 
 -- the number of skips
 abbrev pub skips : List Event → ℕ
@@ -83,13 +81,13 @@ is_gone w h o = elim o [ None ↦ false | Some run ↦ not (is_live w h run.seri
 
 -- the events of a legal history, counted by kinds
 pub record Tally (w : Workload) (h : List Event) : Type 0 where
-  -- each is one of a process, among them those that make or drop a file, or a serve, a map, a skip, an add, a send, a
-  -- completion or an eviction
+  -- each is one of a process, among them those that make or drop a file or say that it is flushed, or a serve, a map, a
+  -- skip, a seal, an add, a send, a completion or an eviction
   pub all : length h
-      ≤ sum_by (acts h) (processes w) + sum_by (changes h) (processes w) + serves h + maps h + skips h + adds h
-      + sends h + dones h + evicts h
-  -- each add is one of writeback or of a process
-  pub added : adds h ≤ takes h + sum_by (loads h) (processes w)
+      ≤ sum_by (acts h) (processes w) + sum_by (changes h) (processes w) + serves h + maps h + skips h + seals h
+      + adds h + sends h + dones h + evicts h
+  -- each add is one of writeback, of a process or of the commit thread
+  pub added : adds h ≤ takes h + sum_by (loads h) (processes w) + journal_adds h
   -- for each add of writeback, and each page that is dirty, a piece was put
   pub dirtied : takes h + dirty_pages w h ≤ sum_by (pieces h) (processes w)
   -- each serve but the last led to an add or a skip
@@ -100,17 +98,6 @@ pub record Tally (w : Workload) (h : List Event) : Type 0 where
   pub skipped : skips h + cond (is_gone w h (served_run (service h))) 1 0 ≤ sum_by (changes h) (processes w)
   -- for each eviction, and each page that is placed, a piece was put or a request was done
   pub evicted : evicts h + length (placed_pages h) ≤ sum_by (pieces h) (processes w) + dones h
-
--- one more event of process q
-one_more : (f : ℕ → ℕ) (q : Pid) (m : ℕ) → 1 ≤ q.0 → q.0 ≤ m
-    → sum_by f (range_with_len 1 m) + 1 ≤ sum_by (λ p. if q.0 == p then f p + 1 else f p) (range_with_len 1 m)
-one_more f q m least most =
-    sum_by_raised f (λ p. if q.0 == p then f p + 1 else f p) q.0 1 m (λ p. each (q.0 == p) (f p))
-    (rw (eq-eqb q.0 q.0 refl) (omega arith)) least (omega arith)
-  where
-    each : (b : Bool) (n : ℕ) → n ≤ (if b then n + 1 else n)
-    each true n = omega arith
-    each false n = omega arith
 
 tally_ret : (w : Workload) (h : List Event) (q : Pid) (c : Call) (r : Reply) → HasCall w h q c → Tally w h
     → Tally w (h ▹ Ret q r)
@@ -174,6 +161,30 @@ tally_map w h run slot n block new size is there k =
   where
     mapped : maps h + 1 ≤ serves h → maps h + 1 + 0 ≤ serves h
     mapped l = omega arith
+
+-- the commit thread adds a request
+journal_add : (w : Workload) (h : List Event) (kind : ReqKind) (first n : ℕ) → Journals w h kind first n
+    → journal_adds (h ▹ Add Cm (journal_request (adds h) kind first n)) ≡ journal_adds h + 1
+journal_add w h (Log t) first n j = omega arith
+journal_add w h (Commit t) first n j = omega arith
+journal_add w h (Home t) first n j = omega arith
+journal_add w h (Clear t) first n j = omega arith
+journal_add w h kind first n j = absurd (j)
+
+tally_journal : (w : Workload) (h : List Event) (kind : ReqKind) (first n : ℕ) → Journals w h kind first n → Tally w h
+    → Tally w (h ▹ Add Cm (journal_request (adds h) kind first n))
+tally_journal w h kind first n j k =
+    let of = of_journal w h (adds h) kind first n j
+    in let stays : after_add kind (service h) ≡ service h = of.service_stays (service h)
+    in record {
+      all = omega (arith, k.all);
+      added = omega (arith, k.added, journal_add w h kind first n j);
+      dirtied = omega (arith, k.dirtied, dirty_journal w h kind first n j);
+      served = rw stays k.served;
+      mapped = rw stays k.mapped;
+      skipped = rw stays k.skipped;
+      evicted = k.evicted;
+    }
 
 -- an event that comes next keeps the counts
 tally_kept : (w : Workload) (h : List Event) (e : Event) → AreMaps w h
@@ -332,6 +343,31 @@ tally_kept w h e places runs (came_add run block is there at grown) k =
   where
     later : serves h ≤ takes h + skips h + 1 → serves h ≤ takes h + 1 + skips h + 0
     later l = omega arith
+tally_kept w h e places runs (came_flushed q name s working idle down) k =
+    let has = working.admitted.has
+    in let more = one_more (changes h) q (length w.procs) has.first has.last
+    in record {
+      all = omega (arith, k.all, more);
+      added = k.added;
+      dirtied = k.dirtied;
+      served = k.served;
+      mapped = k.mapped;
+      skipped = omega (arith, k.skipped, more);
+      evicted = k.evicted;
+    }
+tally_kept w h e places runs (came_synced q name s working acted safe) k =
+    tally_ret w h q (Fsync name) reply.Done working.admitted.has k
+tally_kept w h e places runs (came_seal may) k =
+    record {
+      all = omega (arith, k.all);
+      added = k.added;
+      dirtied = k.dirtied;
+      served = k.served;
+      mapped = k.mapped;
+      skipped = k.skipped;
+      evicted = k.evicted;
+    }
+tally_kept w h e places runs (came_journal kind first n j) k = tally_journal w h kind first n j k
 tally_kept w h e places runs (came_send r few oldest) k =
     record {
       all = omega (arith, k.all);
@@ -533,15 +569,46 @@ few_serves w h (Some run) runs t is = elim (cases_Bool (is_live w h run.serial.0
     one : skips h + 1 ≤ sum_by (changes h) (processes w) → skips h + 1 ≤ sum_by (changes h) (processes w)
     one l = l
 
--- at most as many requests as pieces, twice, and as calls
-few_adds : (w : Workload) (h : List Event) → IsAccepted w → IsLegal w h → adds h ≤ length w.calls + 2 * spans w
+-- at most as many maps and seals
+few_maps : (w : Workload) (h : List Event) → IsAccepted w → IsLegal w h → maps h ≤ length w.calls + spans w
+few_maps w h accepted legal =
+    let t = tally w h accepted legal
+    in omega (
+      arith,
+      t.mapped,
+      few_serves w h (served_run (service h)) (λ run at. maps_known.served w h run accepted legal at) t refl,
+      all_pieces w h accepted legal,
+      all_changes w h accepted legal,
+    )
+
+few_seals : (w : Workload) (h : List Event) → IsAccepted w → IsLegal w h → seals h ≤ 2 * length w.calls + spans w
+few_seals w h accepted legal =
+    omega (
+      arith,
+      (journal_tally w h accepted legal).sealed,
+      all_changes w h accepted legal,
+      few_maps w h accepted legal,
+    )
+
+-- the requests: those of the journal among them
+few_adds : (w : Workload) (h : List Event) → IsAccepted w → IsLegal w h → adds h ≤ 12 * length w.calls + 7 * spans w
 few_adds w h accepted legal =
     let t = tally w h accepted legal
-    in omega (arith, t.added, t.dirtied, all_pieces w h accepted legal, all_loads w h accepted legal)
+    in omega (
+      arith,
+      t.added,
+      t.dirtied,
+      (journal_tally w h accepted legal).added,
+      few_seals w h accepted legal,
+      few_maps w h accepted legal,
+      all_changes w h accepted legal,
+      all_pieces w h accepted legal,
+      all_loads w h accepted legal,
+    )
 
 -- at most as many completions
 few_dones : (w : Workload) (h : List Event) → IsAccepted w → IsLegal w h
-    → (sends h ≤ length w.calls + 2 * spans w) × (dones h ≤ length w.calls + 2 * spans w)
+    → (sends h ≤ 12 * length w.calls + 7 * spans w) × (dones h ≤ 12 * length w.calls + 7 * spans w)
 few_dones w h accepted legal =
     let facts = known w h accepted legal
     in let few = few_adds w h accepted legal
@@ -550,20 +617,21 @@ few_dones w h accepted legal =
 
 -- a legal history has at most so many events
 pub few_events : (w : Workload) (h : List Event) → IsAccepted w → IsLegal w h
-    → length h ≤ 11 * length w.calls + 12 * spans w
+    → length h ≤ 57 * length w.calls + 33 * spans w
 few_events w h accepted legal =
     let t = tally w h accepted legal
     in let done = few_dones w h accepted legal
     in omega (
       arith,
       t.all,
-      t.mapped,
       t.skipped,
       t.evicted,
       few_adds w h accepted legal,
       done.0,
       done.1,
       few_serves w h (served_run (service h)) (λ run at. maps_known.served w h run accepted legal at) t refl,
+      few_maps w h accepted legal,
+      few_seals w h accepted legal,
       all_pieces w h accepted legal,
       all_changes w h accepted legal,
       all_acts w h accepted legal,

@@ -7,7 +7,7 @@ use Rattle.split_types.specs.declared.ids.Pid.{Pid}
 use Rattle.split_types.specs.declared.ids.Serial.{Serial}
 use Rattle.split_types.specs.declared.ids.Slot.{Slot}
 use Rattle.split_types.specs.declared.actor.Actor.{Actor}
-use Rattle.split_types.specs.declared.actor.Actor.TheVariants.{Client, Wb}
+use Rattle.split_types.specs.declared.actor.Actor.TheVariants.{Client, Wb, Cm}
 use Rattle.split_types.specs.declared.buf.Buf.{Buf}
 use Rattle.split_types.specs.declared.buf.Buf.TheVariants.{Page}
 use Rattle.split_types.specs.declared.call.Call.TheVariants.{Write}
@@ -29,12 +29,13 @@ use Rattle.split_types.specs.Serving.{request_for}
 use Rattle.split_types.specs.PagesInCache.{is_page_of, PageIs, PageAfter, PagesChange}
 use Rattle.split_types.specs.Accepted.{IsAccepted}
 use Rattle.split_types.specs.Legal.{IsLegal}
-use Rattle.split_types.specs.Proving.Came.{Came, read_request}
+use Rattle.split_types.specs.Proving.Came.{Came, read_request, journal_request}
 use Rattle.split_types.specs.Proving.Came.Came.{came_enter, came_admit, came_changed, came_exists, came_no_slot, came_make, came_drop, came_no_file, came_too_big}
 use Rattle.split_types.specs.Proving.Came.Came.{came_wrote, came_read, came_fault, came_no_space, came_put, came_get, came_zeros, came_evict, came_load}
-use Rattle.split_types.specs.Proving.Came.Came.{came_serve, came_skip, came_map, came_grow, came_add, came_send, came_done}
+use Rattle.split_types.specs.Proving.Came.Came.{came_flushed, came_synced, came_seal, came_journal, came_serve, came_skip, came_map, came_grow, came_add, came_send, came_done}
 use Rattle.split_types.specs.Proving.Known.{Known}
 use Rattle.split_types.proofs.CameLaws.{came}
+use Rattle.split_types.proofs.JournalAdds.{of_journal, reads_moves}
 use Rattle.split_types.proofs.FileLaws.{files_are_in_order}
 use Rattle.split_types.proofs.HeldLaws.{same_buf-is}
 use Rattle.split_types.proofs.WaitingLaws.{number_here}
@@ -171,6 +172,7 @@ read_past w h b f any =
     in let there : slice_get (unfinished h) found.place ≡ Some r =
     ap (λ l. slice_get l found.place) (sym f.well) ∙ found.there
     in let run = f.known.runs r.id.0 r (f.known.waiting.left_of found.place r there)
+    (reads_moves r b found.passes)
     in past w h b (record {
       serial = run.serial;
       page = run.page;
@@ -369,6 +371,17 @@ page_next w h e b accepted legal f old live (came_add run block at there placed 
     let r = request_for (adds h) run block
     in after_add w h b Wb r (λ is. absurd (both_ways false refl is))
     (λ is. ready_live w h b (served_ready w h run b (f.served run at) there is)) live
+page_next w h e b accepted legal f old live (came_flushed q name s working idle down) =
+    page_stays w h (h ▹ e) b live refl refl refl refl
+page_next w h e b accepted legal f old live (came_synced q name s working acted safe) =
+    page_stays w h (h ▹ e) b live refl refl refl refl
+page_next w h e b accepted legal f old live (came_seal may) =
+    page_stays w h (h ▹ e) b live refl refl refl refl
+page_next w h e b accepted legal f old live (came_journal kind first n j) =
+    let r = journal_request (adds h) kind first n
+    in let of = of_journal w h (adds h) kind first n j
+    in after_add w h b Cm r (λ is. absurd (both_ways (reads r b) (of.reads_none b) is))
+    (λ is. absurd (both_ways (covers r b) (of.covers_none b) is)) live
 page_next w h e b accepted legal f old live (came_send r free picked) =
     page_stays w h (h ▹ e) b live refl refl refl refl
 page_next w h e b accepted legal f old live (came_done k r at) = λ x there.

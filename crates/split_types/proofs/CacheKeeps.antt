@@ -5,7 +5,7 @@ use Rattle.std.specs.List.{list_any}
 use Rattle.std.proofs.lemmas.Bool.{and_from, both_ways, cases_Bool, cond-false, false_from_ne_true, not_from_false, or_left, or_right}
 use Rattle.split_types.specs.declared.ids.Pid.{Pid}
 use Rattle.split_types.specs.declared.ids.Slot.{Slot}
-use Rattle.split_types.specs.declared.actor.Actor.TheVariants.{Client, Wb}
+use Rattle.split_types.specs.declared.actor.Actor.TheVariants.{Client, Wb, Cm}
 use Rattle.split_types.specs.declared.buf.Buf.{Buf}
 use Rattle.split_types.specs.declared.buf.Buf.TheVariants.{Page}
 use Rattle.split_types.specs.declared.call.Call.TheVariants.{Write, Read}
@@ -26,11 +26,12 @@ use Rattle.split_types.specs.Serving.{request_for}
 use Rattle.split_types.specs.PagesInCache.{is_page_of, PageAfter, waits_for, pin_of, PinAfter, IsKeptFor, PinsChange}
 use Rattle.split_types.specs.Accepted.{IsAccepted}
 use Rattle.split_types.specs.Legal.{IsLegal}
-use Rattle.split_types.specs.Proving.Came.{Came, read_request}
+use Rattle.split_types.specs.Proving.Came.{Came, read_request, journal_request}
 use Rattle.split_types.specs.Proving.Came.Came.{came_enter, came_admit, came_changed, came_exists, came_no_slot, came_make, came_drop, came_no_file, came_too_big}
 use Rattle.split_types.specs.Proving.Came.Came.{came_wrote, came_read, came_fault, came_no_space, came_put, came_get, came_zeros, came_evict, came_load}
-use Rattle.split_types.specs.Proving.Came.Came.{came_serve, came_skip, came_map, came_grow, came_add, came_send, came_done}
+use Rattle.split_types.specs.Proving.Came.Came.{came_flushed, came_synced, came_seal, came_journal, came_serve, came_skip, came_map, came_grow, came_add, came_send, came_done}
 use Rattle.split_types.proofs.CameLaws.{came}
+use Rattle.split_types.proofs.JournalAdds.{of_journal}
 use Rattle.split_types.proofs.FileLaws.{files_are_in_order}
 use Rattle.split_types.proofs.HeldLaws.{same_buf-is}
 use Rattle.split_types.proofs.PinLaws.{WorksOn, works_one, pins}
@@ -112,6 +113,14 @@ placed_next w h e old (came_map run free serves there none at) =
 placed_next w h e old (came_grow run block serves there at short) =
     placed_stay h (h ▹ e) (λ b. refl) (λ b p is. is) old
 placed_next w h e old (came_add run block at there placed known) =
+    placed_stay h (h ▹ e) (λ b. refl) (λ b p is. is) old
+placed_next w h e old (came_flushed q name s working idle down) =
+    placed_stay h (h ▹ e) (λ b. refl) (λ b p is. is) old
+placed_next w h e old (came_synced q name s working acted safe) =
+    placed_stay h (h ▹ e) (λ b. refl) (λ b p is. was_some q (pinned_by h b) p is) old
+placed_next w h e old (came_seal may) =
+    placed_stay h (h ▹ e) (λ b. refl) (λ b p is. is) old
+placed_next w h e old (came_journal kind first n j) =
     placed_stay h (h ▹ e) (λ b. refl) (λ b p is. is) old
 placed_next w h e old (came_send r free picked) =
     placed_stay h (h ▹ e) (λ b. refl) (λ b p is. is) old
@@ -207,6 +216,17 @@ pin_next w h e b accepted legal f old live page (came_grow run block serves ther
     pin_stays w h (h ▹ e) b live page.loading_is refl refl
 pin_next w h e b accepted legal f old live page (came_add run block at there placed known) =
     pin_add w h b Wb (request_for (adds h) run block) f refl (λ does. absurd (both_ways false refl does))
+    live page.loading_is
+pin_next w h e b accepted legal f old live page (came_flushed q name s working idle down) =
+    pin_stays w h (h ▹ e) b live page.loading_is refl refl
+pin_next w h e b accepted legal f old live page (came_synced q name s working acted safe) =
+    pin_ret w h b q reply.Done live page.loading_is
+pin_next w h e b accepted legal f old live page (came_seal may) =
+    pin_stays w h (h ▹ e) b live page.loading_is refl refl
+pin_next w h e b accepted legal f old live page (came_journal kind first n j) =
+    let r = journal_request (adds h) kind first n
+    in pin_add w h b Cm r f refl
+    (λ does. absurd (both_ways (reads r b) ((of_journal w h (adds h) kind first n j).reads_none b) does))
     live page.loading_is
 pin_next w h e b accepted legal f old live page (came_send r free picked) =
     pin_stays w h (h ▹ e) b live page.loading_is refl refl

@@ -6,9 +6,10 @@ use Rattle.split_types.specs.declared.ids.Pid.{Pid}
 use Rattle.split_types.specs.declared.ids.Serial.{Serial}
 use Rattle.split_types.specs.declared.buf.Buf.{Buf}
 use Rattle.split_types.specs.declared.buf.Buf.TheVariants.{Page}
-use Rattle.split_types.specs.declared.actor.Actor.TheVariants.{Client, Wb}
+use Rattle.split_types.specs.declared.actor.Actor.TheVariants.{Client, Wb, Cm}
 use Rattle.split_types.specs.declared.call.Call.{Call}
 use Rattle.split_types.specs.declared.call.Call.TheVariants.{Write}
+use Rattle.split_types.specs.declared.request.ReqKind.{ReqKind}
 use Rattle.split_types.specs.declared.request.Request.{Request}
 use Rattle.split_types.specs.declared.request.Run.{Run}
 use Rattle.split_types.specs.declared.workload.Workload.{Workload}
@@ -27,14 +28,15 @@ use Rattle.split_types.specs.Serving.{request_for}
 use Rattle.split_types.specs.MapsInOrder.{IsServed}
 use Rattle.split_types.specs.Accepted.{IsAccepted}
 use Rattle.split_types.specs.Legal.{IsLegal}
-use Rattle.split_types.specs.Proving.Came.{Came, IsAtPiece, IsAbsent, read_request}
+use Rattle.split_types.specs.Proving.Came.{Came, IsAtPiece, IsAbsent, read_request, journal_request, Journals}
 use Rattle.split_types.specs.Proving.Came.Came.{came_enter, came_admit, came_changed, came_exists, came_no_slot, came_make, came_drop, came_no_file, came_too_big}
 use Rattle.split_types.specs.Proving.Came.Came.{came_wrote, came_read, came_fault, came_no_space, came_put, came_get, came_zeros, came_evict, came_load}
-use Rattle.split_types.specs.Proving.Came.Came.{came_serve, came_skip, came_map, came_grow, came_add, came_send, came_done}
+use Rattle.split_types.specs.Proving.Came.Came.{came_flushed, came_synced, came_seal, came_journal, came_serve, came_skip, came_map, came_grow, came_add, came_send, came_done}
 use Rattle.split_types.proofs.CameLaws.{came}
+use Rattle.split_types.proofs.JournalAdds.{IsOfJournal, of_journal}
 use Rattle.split_types.proofs.HeldLaws.{same_buf-is}
 use Rattle.split_types.proofs.VictimLaws.{victims_are_oldest}
-use Rattle.split_types.proofs.Lists.{count_push, count_none, count_filter_less}
+use Rattle.split_types.proofs.Lists.{any_push_no, count_push, count_none, count_filter_less}
 use Rattle.split_types.proofs.WaitingLaws.{number_here}
 use Rattle.split_types.proofs.KeptLists.{any_filter, any_pushed}
 use Rattle.split_types.proofs.CacheLaws.{any_without, live_here, IsKnown, is_known, IsFlying, flying, served_ready}
@@ -217,6 +219,31 @@ kept_add w h run block served live old = record {
     r : Request
     r = request_for (adds h) run block
 
+-- a request of the journal neither takes pages nor reads any
+kept_journal : (w : Workload) (h : List Event) (kind : ReqKind) (first n : ℕ) → Journals w h kind first n → Kept h
+    → Kept (h ▹ Add Cm (journal_request (adds h) kind first n))
+kept_journal w h kind first n j old = record {
+  put_placed = λ b is. old.put_placed b (and_parts (not (covers r b)) (is_put_since h b) is).1;
+  busy_placed = λ b is. old.busy_placed b (left_as_was (λ x. covers x b) (unfinished h) (of.covers_none b) is);
+  reads_once = λ b. omega (
+    arith,
+    count_push (λ x. reads x b) (outstanding h) r,
+    ap {B = ℕ} (λ t. cond t 1 0) (of.reads_none b),
+    old.reads_once b,
+  );
+  reads_absent = λ b is. old.reads_absent b (left_as_was (λ x. reads x b) (outstanding h) (of.reads_none b) is);
+}
+  where
+    r : Request
+    r = journal_request (adds h) kind first n
+
+    of : IsOfJournal r
+    of = of_journal w h (adds h) kind first n j
+
+    left_as_was : (test : Request → Bool) (xs : List Request) → test r ≡ false
+        → list_any test (xs ++ r ∷ []) ≡ true → list_any test xs ≡ true
+    left_as_was test xs none is = sym (any_push_no test xs r none) ∙ is
+
 kept_done : (w : Workload) (h : List Event) (k : ℕ) (r : Request) → IsFlying w h r → Kept h
     → Kept (h ▹ Done k r.id true)
 kept_done w h k r fly old = record {
@@ -284,6 +311,13 @@ kept_next w h e f old (came_grow run block serves there at short) =
     kept_stay h (h ▹ e) (λ b. refl) (λ b. refl) refl refl old
 kept_next w h e f old (came_add run block at there placed known) =
     kept_add w h run block (f.served run at) there old
+kept_next w h e f old (came_flushed q name s working idle down) =
+    kept_stay h (h ▹ e) (λ b. refl) (λ b. refl) refl refl old
+kept_next w h e f old (came_synced q name s working acted safe) =
+    kept_stay h (h ▹ e) (λ b. refl) (λ b. refl) refl refl old
+kept_next w h e f old (came_seal may) =
+    kept_stay h (h ▹ e) (λ b. refl) (λ b. refl) refl refl old
+kept_next w h e f old (came_journal kind first n j) = kept_journal w h kind first n j old
 kept_next w h e f old (came_send r free picked) =
     kept_stay h (h ▹ e) (λ b. refl) (λ b. refl) refl refl old
 kept_next w h e f old (came_done k r at) = kept_done w h k r (flying w h k r f at) old

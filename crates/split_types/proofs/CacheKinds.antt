@@ -8,7 +8,7 @@ use Rattle.split_types.specs.declared.request.Request.{Request}
 use Rattle.split_types.specs.declared.workload.Workload.{Workload}
 use Rattle.split_types.specs.declared.event.Event.{Event}
 use Rattle.split_types.specs.declared.event.Event.TheVariants.{Add}
-use Rattle.split_types.specs.History.{◌▹◌}
+use Rattle.split_types.specs.History.{◌▹◌, adds}
 use Rattle.split_types.specs.Hooks.{maker, covers}
 use Rattle.split_types.specs.Requests.{requests, unfinished}
 use Rattle.split_types.specs.Pages.{is_live_page, is_put_since, is_dirty, is_busy}
@@ -19,9 +19,10 @@ use Rattle.split_types.specs.FilesInOrder.{all_files}
 use Rattle.split_types.specs.PagesInCache.{IsPlaced, UnsettledAreHeld, IsOnlyLoading, ReadsBlock, LoadingPages}
 use Rattle.split_types.specs.Accepted.{IsAccepted}
 use Rattle.split_types.specs.Legal.{IsLegal}
-use Rattle.split_types.specs.Proving.Came.{Came}
-use Rattle.split_types.specs.Proving.Came.Came.{came_load, came_add}
+use Rattle.split_types.specs.Proving.Came.{Came, journal_request}
+use Rattle.split_types.specs.Proving.Came.Came.{came_load, came_add, came_journal}
 use Rattle.split_types.proofs.CameLaws.{came}
+use Rattle.split_types.proofs.JournalAdds.{of_journal, reads_moves}
 use Rattle.split_types.proofs.KnownLaws.{known}
 use Rattle.split_types.proofs.Lists.{slice_get-push}
 use Rattle.split_types.proofs.CacheLaws.{read_moved}
@@ -76,6 +77,9 @@ added_one : (w : Workload) (h : List Event) (by : Actor) (q : Request) (b : Buf)
     → reads q b ≡ true → q.n ≡ 1
 added_one w h by q b (came_load p c s piece here absent block at) does = refl
 added_one w h by q b (came_add run block at there placed known) does = absurd (both_ways false refl does)
+added_one w h by q b (came_journal kind first n j) does =
+    absurd (both_ways (reads (journal_request (adds h) kind first n) b)
+    ((of_journal w h (adds h) kind first n j).reads_none b) does)
 
 read_one : (w : Workload) (h : List Event) (i : ℕ) (r : Request) (b : Buf) → IsLegal w h
     → slice_get (requests h) i ≡ Some r → reads r b ≡ true → r.n ≡ 1
@@ -92,7 +96,7 @@ read_one w (h ▹ e) i r b legal at does = read_one w h i r b legal.1 at does
 reads_block : (w : Workload) (h : List Event) (i : ℕ) (r : Request) (b : Buf) → IsAccepted w → IsLegal w h
     → slice_get (requests h) i ≡ Some r → reads r b ≡ true → ReadsBlock w h r b
 reads_block w h i r b accepted legal at does =
-    let run = (known w h accepted legal).runs i r at
+    let run = (known w h accepted legal).runs i r at (reads_moves r b does)
     in record {
       serial = run.serial;
       page = run.page;

@@ -34,6 +34,7 @@ use Rattle.split_types.specs.PagesInCache.{is_page_of}
 use Rattle.split_types.specs.Accepted.{IsAccepted}
 use Rattle.split_types.specs.Legal.{IsLegal}
 use Rattle.split_types.specs.Proving.Came.{IsAtPiece}
+use Rattle.split_types.specs.Transactions.{is_of_commit}
 use Rattle.split_types.specs.Proving.Runs.{MovesRun}
 use Rattle.split_types.specs.Proving.Known.{Known}
 use Rattle.split_types.proofs.Lists.{count_none, any_counted, none_counted, filter_one, find_some}
@@ -198,7 +199,7 @@ ready_live w h b ready =
 -- what is known of a request in flight: it is the one of its number among all, and among those that aren't done
 pub record IsFlying (w : Workload) (h : List Event) (r : Request) : Type 0 where
   pub added : slice_get (requests h) r.id.0 ≡ Some r
-  pub run : MovesRun (all_files w h) (mapped_block w h) r
+  pub run : is_of_commit r ≡ false → MovesRun (all_files w h) (mapped_block w h) r
   pub place : ℕ
   pub left : slice_get (unfinished h) place ≡ Some r
   pub out : slice_get (outstanding h) place ≡ Some r

@@ -10,6 +10,7 @@ use Rattle.split_types.specs.declared.ids.Slot.{Slot}
 use Rattle.split_types.specs.declared.actor.Actor.TheVariants.{Client, Wb}
 use Rattle.split_types.specs.declared.buf.Buf.{Buf}
 use Rattle.split_types.specs.declared.buf.Buf.TheVariants.{Page}
+use Rattle.split_types.specs.declared.request.ReqKind.TheVariants as kind
 use Rattle.split_types.specs.declared.request.Request.{Request}
 use Rattle.split_types.specs.declared.request.Run.{Run}
 use Rattle.split_types.specs.declared.workload.Workload.{Workload}
@@ -30,7 +31,7 @@ use Rattle.split_types.specs.PagesInCache.{is_page_of, PageIs, PageAfter, pages_
 use Rattle.split_types.specs.Proving.Came.{Came, read_request}
 use Rattle.split_types.specs.Proving.Came.Came.{came_enter, came_admit, came_changed, came_exists, came_no_slot, came_make, came_drop, came_no_file, came_too_big}
 use Rattle.split_types.specs.Proving.Came.Came.{came_wrote, came_read, came_fault, came_no_space, came_put, came_get, came_zeros, came_evict, came_load}
-use Rattle.split_types.specs.Proving.Came.Came.{came_serve, came_skip, came_map, came_grow, came_add, came_send, came_done}
+use Rattle.split_types.specs.Proving.Came.Came.{came_flushed, came_synced, came_seal, came_journal, came_serve, came_skip, came_map, came_grow, came_add, came_send, came_done}
 use Rattle.split_types.proofs.CameLaws.{came}
 use Rattle.split_types.proofs.Lists.{count_yes, count_no, list_any_here}
 use Rattle.split_types.proofs.HeldLaws.{same_buf-is, same_buf-self, busy_known, pages_are_known}
@@ -347,6 +348,15 @@ counts_next w h e f page (came_map run free serves there none at) = counts_stay 
 counts_next w h e f page (came_grow run block serves there at short) = counts_stay w h e page
 counts_next w h e f page (came_add run block at there placed known) =
     counts_add w h run block (f.served run at) there page
+counts_next w h e f page (came_flushed q name s working idle down) = counts_stay w h e page
+counts_next w h e f page (came_synced q name s working acted safe) = counts_stay w h e page
+counts_next w h e f page (came_seal may) = counts_stay w h e page
+counts_next w h e f page (came_journal (kind.Log t) first n j) = counts_stay w h e page
+counts_next w h e f page (came_journal (kind.Commit t) first n j) = counts_stay w h e page
+counts_next w h e f page (came_journal (kind.Home t) first n j) = counts_stay w h e page
+counts_next w h e f page (came_journal (kind.Clear t) first n j) = counts_stay w h e page
+counts_next w h e f page (came_journal (kind.Read p s g) first n j) = absurd (j)
+counts_next w h e f page (came_journal (kind.Pages s g) first n j) = absurd (j)
 counts_next w h e f page (came_send r free picked) = counts_stay w h e page
 counts_next w h e f page (came_done k r at) = λ x there.
     (let fly = flying w h k r f at

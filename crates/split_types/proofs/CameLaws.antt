@@ -6,6 +6,7 @@ use Rattle.std.proofs.lemmas.Bool.Decides.{nat_tests}
 use Rattle.std.proofs.lemmas.Option.{same_Some}
 use Rattle.split_types.specs.declared.ids.Pid.{Pid}
 use Rattle.split_types.specs.declared.ids.Serial.{Serial}
+use Rattle.split_types.specs.declared.ids.Txn.{Txn}
 use Rattle.split_types.specs.declared.buf.Buf.{Buf}
 use Rattle.split_types.specs.declared.buf.Buf.TheVariants.{Page}
 use Rattle.split_types.specs.declared.call.Call.{Call}
@@ -13,17 +14,23 @@ use Rattle.split_types.specs.declared.call.Call.TheVariants.{Creat, Write, Read,
 use Rattle.split_types.specs.declared.call.Reply.TheVariants as reply
 use Rattle.split_types.specs.declared.actor.Actor.{Actor}
 use Rattle.split_types.specs.declared.actor.Actor.TheVariants.{Client, Wb, Cm, Dq, Dn, Tk}
+use Rattle.split_types.specs.declared.request.ReqKind.{ReqKind}
+use Rattle.split_types.specs.declared.request.ReqKind.TheVariants as kind
 use Rattle.split_types.specs.declared.request.Run.{Run}
 use Rattle.split_types.specs.declared.request.Service.{Service}
 use Rattle.split_types.specs.declared.request.Service.TheVariants.{Idle, Serving, Mapped}
 use Rattle.split_types.specs.declared.workload.Workload.{Workload}
 use Rattle.split_types.specs.declared.event.Event.{Event}
-use Rattle.split_types.specs.declared.event.Event.TheVariants.{Enter, Admit, Make, Put, Get, Drop, Ret, Serve, Skip, Add, Done, Evict}
+use Rattle.split_types.specs.declared.event.Event.TheVariants.{Enter, Admit, Make, Put, Get, Drop, Flushed, Ret, Serve, Skip, Seal, Add, Done, Evict}
 use Rattle.split_types.specs.Rows.{◌⇒◌∣◌}
 use Rattle.split_types.specs.History.{adds}
 use Rattle.split_types.specs.Hooks.{maker}
 use Rattle.split_types.specs.Requests.{in_flight}
-use Rattle.split_types.specs.Files.{is_live, is_name_taken}
+use Rattle.split_types.specs.Rounds.{last_txn, next_txn, slot_of_txn}
+use Rattle.split_types.specs.Parents.{home_block}
+use Rattle.split_types.specs.Transactions.{journal_slots, descriptor_at, commit_at, in_journal, oldest_in, marked_buffers, next_home, under_way, stage, Stage}
+use Rattle.split_types.specs.Transactions.Stage.{Fresh, Sealed, Logging, Committing, Homing, Clearing}
+use Rattle.split_types.specs.Files.{is_live, is_name_taken, bound_file}
 use Rattle.split_types.specs.Calls.{returned, is_entered, is_admitted, has_acted, moved, call_of}
 use Rattle.split_types.specs.Schedulers.{admits, pick}
 use Rattle.split_types.specs.Reads.{is_loading, is_read_badly}
@@ -39,11 +46,16 @@ use Rattle.split_types.specs.Pieces.{Piece, is_whole, piece_left, got}
 use Rattle.split_types.specs.Clients.{piece_state, client_state, state_left, most_bytes, evict_of, next_of_absent, next_of_put, next_of_load, next_of_get, next_of_write, next_on_file, make_in, next_of_bound, next_of_creat, next_of_admitted, next_of_call, next_of_client}
 use Rattle.split_types.specs.Writeback.{service, served_run}
 use Rattle.split_types.specs.Serving.{service_state, bytes_up_to, map_of, request_for, next_of_placed, next_of_serving, next_of_mapped, next_in_service}
+use Rattle.split_types.specs.Syncing.{admit_place, is_written, awaited_txn, is_safe}
+use Rattle.split_types.specs.Committing.{commit_state, is_map_waiting, slot_of_some_txn, goes_home, add_commit, add_home, add_clear, next_of_idle, next_of_sealing, next_of_clearing, next_of_homing, next_of_stage}
 use Rattle.split_types.specs.Next.{send_of, next}
-use Rattle.split_types.specs.Proving.Came.{Came, HasCall, IsAdmitted, IsWorking, IsOfNames, IsAtPiece, IsAbsent, read_request}
+use Rattle.split_types.specs.Proving.Came.{Came, HasCall, IsAdmitted, IsWorking, IsOfNames, IsAtPiece, IsAbsent, IsIdle, MayGoHome, MayClear, Journals, read_request, journal_request}
+use Rattle.split_types.specs.Proving.Came.IsIdle.{idle_fresh, idle_committed, idle_homed, idle_cleared}
+use Rattle.split_types.specs.Proving.Came.MayGoHome.{home_first, home_next}
+use Rattle.split_types.specs.Proving.Came.MayClear.{clear_first, clear_next}
 use Rattle.split_types.specs.Proving.Came.Came.{came_enter, came_admit, came_changed, came_exists, came_no_slot, came_make, came_drop, came_no_file, came_too_big}
 use Rattle.split_types.specs.Proving.Came.Came.{came_wrote, came_read, came_fault, came_no_space, came_put, came_get, came_zeros, came_evict, came_load}
-use Rattle.split_types.specs.Proving.Came.Came.{came_serve, came_skip, came_map, came_grow, came_add, came_send, came_done}
+use Rattle.split_types.specs.Proving.Came.Came.{came_flushed, came_synced, came_serve, came_skip, came_map, came_grow, came_add, came_seal, came_journal, came_send, came_done}
 
 -- a row decides, or the rows below it do
 pub by_row : {A C : Type 0} (b : Bool) (x y e : A) → (b ⇒ x ∣ y) ≡ e → (b ≡ true → x ≡ e → C)
@@ -56,6 +68,12 @@ pub by_some : {A B C : Type 0} (o : Option A) (f : A → Option B) (e : B)
     → (elim o [ None ↦ None | Some a ↦ f a ]) ≡ Some e → ((a : A) → o ≡ Some a → f a ≡ Some e → C) → C
 by_some None f e h go = absurd (cc)
 by_some (Some a) f e h go = go a refl h
+
+-- an event that comes where a test holds
+pub by_test : {C : Type 0} (b : Bool) (d e : Event) → (if b then Some d else None) ≡ Some e
+    → (b ≡ true → Some d ≡ Some e → C) → C
+by_test true d e is go = go refl is
+by_test false d e is go = absurd (cc)
 
 -- the event comes from a row, and this actor makes it
 pub record Comes (w : Workload) (h : List Event) (a : Actor) (e : Event) : Type 0 where
@@ -276,6 +294,15 @@ on_file w h p (Read name off len) serial e working idle n =
       | None ↦ Some (Ret p (reply.Count (moved h p.0) (got h p.0)))
       | Some s ↦ next_of_get s
     ]) ≡ Some e) working.file n)
+on_file w h p (Fsync name) serial e working idle n =
+    by_row (not (has_acted h p.0)) (if is_written h (bound_file w h p.0) (admit_place h p.0) then Some (Flushed p) else None)
+    (if is_safe h (awaited_txn w h p.0) then Some (Ret p reply.Done) else None) (Some e) n
+    (λ waits is. by_test (is_written h (bound_file w h p.0) (admit_place h p.0)) (Flushed p) e is
+    (λ down same. comes w h (Client p) (Flushed p) e (came_flushed p name serial working (not-true _ waits) down) refl
+    same))
+    (λ flushed is. by_test (is_safe h (awaited_txn w h p.0)) (Ret p reply.Done) e is
+    (λ safe same. comes w h (Client p) (Ret p reply.Done) e
+    (came_synced p name serial working (not-false _ flushed) safe) refl same))
 on_file w h p c serial e working idle n = absurd (cc)
 
 in_bound : (w : Workload) (h : List Event) (p : Pid) (c : Call) (e : Event) → IsAdmitted w h p c
@@ -331,16 +358,11 @@ in_call w h p c e has n =
     (λ out is. comes w h (Client p) (Enter p (returned h p.0)) e (came_enter p c has (not-true _ out)) refl is)
     (λ inside rest. by_row (not (is_admitted h p.0)) (if admits w h p.0 then Some (Admit p) else None)
     (next_of_admitted (client_state w h p) c) (Some e) rest
-    (λ out is. by_test (admits w h p.0) refl is
+    (λ out is. by_test (admits w h p.0) (Admit p) e is
     (λ may same. comes w h (Client p) (Admit p) e (came_admit p c has (not-false _ inside) (not-true _ out) may) refl
     same))
     (λ admitted is. in_admitted w h p c e
     (record { has = has; entered = not-false _ inside; admitted = not-false _ admitted }) is))
-  where
-    by_test : {C : Type 0} (b : Bool) → admits w h p.0 ≡ b → (if b then Some (Admit p) else None) ≡ Some e
-        → (admits w h p.0 ≡ true → Some (Admit p) ≡ Some e → C) → C
-    by_test true may is go = go may is
-    by_test false may is go = absurd (cc)
 
 by_client : (w : Workload) (h : List Event) (p : Pid) (e : Event) → next w h (Client p) ≡ Some e
     → Comes w h (Client p) e
@@ -411,6 +433,99 @@ by_writeback w h e n = by_service (service h) refl n
         dropped w h run (next_of_mapped (service_state w h run)) e (ap served_run at) is
         (λ there rest. by_mapped w h run e at there rest)
 
+-- the commit thread
+journals : (w : Workload) (h : List Event) (kind : ReqKind) (first n : ℕ) (e : Event) → Journals w h kind first n
+    → Some (Add Cm (journal_request (adds h) kind first n)) ≡ Some e → Comes w h Cm e
+journals w h kind first n e j is =
+    comes w h Cm (Add Cm (journal_request (adds h) kind first n)) e (came_journal kind first n j) refl is
+
+goes : (w : Workload) (h : List Event) (b : Buf) (e : Event) → MayGoHome w h → next_home h ≡ Some b
+    → Some (Add Cm (journal_request (adds h) (kind.Home (last_txn h)) (home_block b) 1)) ≡ Some e → Comes w h Cm e
+goes w h b e before at is =
+    journals w h (kind.Home (last_txn h)) (home_block b) 1 e
+    (record { before = before; buffer = b; awaits = at; last = refl; place = refl; long = refl }) is
+
+in_idle : (w : Workload) (h : List Event) (e : Event) → IsIdle h → next_of_idle (commit_state w h) ≡ Some e
+    → Comes w h Cm e
+in_idle w h e idle n =
+    by_row (goes_home (commit_state w h))
+    (elim (next_home h) [ None ↦ None | Some b ↦ add_home (commit_state w h) b ])
+    (next_of_sealing (commit_state w h)) (Some e) n
+    (λ home is. by_some (next_home h) (add_home (commit_state w h)) e is
+    (λ b at same. goes w h b e (home_first idle home) at same))
+    (λ stays is. by_row
+    (nat_lt (length (in_journal h)) (journal_slots w) && nat_lt 0 (length (marked_buffers h))
+    && not (is_map_waiting (service h)))
+    (Some (Seal (next_txn h) (length (marked_buffers h)))) None (Some e) is
+    (λ test same. comes w h Cm (Seal (next_txn h) (length (marked_buffers h))) e (came_seal (record {
+      idle = idle;
+      stays = stays;
+      left = grind (arith, nat_tests);
+      some = grind (arith, nat_tests);
+      out = grind (arith, nat_tests);
+    })) refl same)
+    (λ test same. absurd (cc)))
+
+in_clearing : (w : Workload) (h : List Event) (e : Event) → MayClear h → (oldest_in (in_journal h) ≡ None → IsIdle h)
+    → next_of_clearing (commit_state w h) ≡ Some e → Comes w h Cm e
+in_clearing w h e before idle n = by_oldest (oldest_in (in_journal h)) refl n
+  where
+    by_oldest : (o : Option Txn) → oldest_in (in_journal h) ≡ o
+        → (elim o [
+          | None ↦ next_of_idle (commit_state w h)
+          | Some t ↦ add_clear (commit_state w h) t
+        ]) ≡ Some e
+        → Comes w h Cm e
+    by_oldest None at is = in_idle w h e (idle at) is
+    by_oldest (Some t) at is =
+        journals w h (kind.Clear t) (commit_at (slot_of_some_txn h (oldest_in (in_journal h)))) 1 e (record {
+          before = before;
+          oldest = at;
+          place = ap (λ o. commit_at (slot_of_some_txn h o)) at;
+          long = refl;
+        }) is
+
+in_homing : (w : Workload) (h : List Event) (t : Txn) (e : Event) → stage h ≡ Homing t
+    → next_of_homing (commit_state w h) ≡ Some e → Comes w h Cm e
+in_homing w h t e at n = by_home (next_home h) refl n
+  where
+    by_home : (o : Option Buf) → next_home h ≡ o
+        → (elim o [
+          | Some b ↦ add_home (commit_state w h) b
+          | None ↦ (nat_lt 0 (under_way h) ⇒ None ∣ next_of_clearing (commit_state w h))
+        ]) ≡ Some e
+        → Comes w h Cm e
+    by_home (Some b) home is = goes w h b e (home_next t at) home is
+    by_home None home is =
+        by_row (nat_lt 0 (under_way h)) None (next_of_clearing (commit_state w h)) (Some e) is
+        (λ waits same. absurd (cc))
+        (λ done same. in_clearing w h e (clear_first t at home (grind (arith, nat_tests)))
+        (λ none. idle_homed t at home (grind (arith, nat_tests)) none) same)
+
+by_commit : (w : Workload) (h : List Event) (e : Event) → next w h Cm ≡ Some e → Comes w h Cm e
+by_commit w h e n = by_stage (stage h) refl n
+  where
+    by_stage : (s : Stage) → stage h ≡ s → next_of_stage (commit_state w h) s ≡ Some e → Comes w h Cm e
+    by_stage Fresh at is = in_idle w h e (idle_fresh at) is
+    by_stage (Sealed t k) at is =
+        journals w h (kind.Log t) (descriptor_at (slot_of_txn h (last_txn h))) (k + 1) e
+        (record { buffers = k; before = at; place = refl; long = refl }) is
+    by_stage (Logging t) at is =
+        by_row (nat_lt 0 (under_way h)) None (add_commit (commit_state w h) t) (Some e) is
+        (λ waits same. absurd (cc))
+        (λ done same. journals w h (kind.Commit t) (commit_at (slot_of_txn h (last_txn h))) 1 e
+        (record { before = at; done = grind (arith, nat_tests); place = refl; long = refl }) same)
+    by_stage (Committing t) at is =
+        by_row (nat_lt 0 (under_way h)) None (next_of_idle (commit_state w h)) (Some e) is
+        (λ waits same. absurd (cc))
+        (λ done same. in_idle w h e (idle_committed t at (grind (arith, nat_tests))) same)
+    by_stage (Homing t) at is = in_homing w h t e at is
+    by_stage (Clearing t) at is =
+        by_row (nat_lt 0 (under_way h)) None (next_of_clearing (commit_state w h)) (Some e) is
+        (λ waits same. absurd (cc))
+        (λ done same. in_clearing w h e (clear_next t at (grind (arith, nat_tests)))
+        (λ none. idle_cleared t at (grind (arith, nat_tests)) none) same)
+
 by_dispatcher : (w : Workload) (h : List Event) (e : Event) → next w h Dq ≡ Some e → Comes w h Dq e
 by_dispatcher w h e n =
     by_row (not (nat_lt (length (in_flight h)) w.depth)) None
@@ -422,7 +537,7 @@ by_dispatcher w h e n =
 pub next_comes : (w : Workload) (h : List Event) (a : Actor) (e : Event) → next w h a ≡ Some e → Comes w h a e
 next_comes w h (Client p) e n = by_client w h p e n
 next_comes w h Wb e n = by_writeback w h e n
-next_comes w h Cm e n = absurd (cc)
+next_comes w h Cm e n = by_commit w h e n
 next_comes w h Dq e n = by_dispatcher w h e n
 next_comes w h (Dn k) e n =
     by_some (slice_get (in_flight h) k) (λ r. Some (Done k r.id true)) e n

@@ -4,7 +4,7 @@ use Rattle.std.proofs.lemmas.Bool.{cases_order, cond-true, cond-false, eq-eqb, n
 use Rattle.std.proofs.lemmas.Option.{same_Some}
 use Rattle.split_types.specs.declared.ids.ReqId.{ReqId}
 use Rattle.split_types.specs.declared.actor.Actor.{Actor}
-use Rattle.split_types.specs.declared.actor.Actor.TheVariants.{Client, Wb}
+use Rattle.split_types.specs.declared.actor.Actor.TheVariants.{Client, Wb, Cm}
 use Rattle.split_types.specs.declared.request.Request.{Request}
 use Rattle.split_types.specs.declared.workload.Workload.{Workload}
 use Rattle.split_types.specs.declared.event.Event.{Event}
@@ -17,14 +17,15 @@ use Rattle.split_types.specs.Serving.{request_for}
 use Rattle.split_types.specs.Accepted.{IsAccepted}
 use Rattle.split_types.specs.Legal.{IsLegal}
 use Rattle.split_types.specs.LegalHistories.{SendsShowCosts}
-use Rattle.split_types.specs.Proving.Came.{Came, read_request}
+use Rattle.split_types.specs.Proving.Came.{Came, read_request, journal_request}
 use Rattle.split_types.specs.Proving.Came.Came.{came_enter, came_admit, came_changed, came_exists, came_no_slot, came_make, came_drop, came_no_file, came_too_big}
 use Rattle.split_types.specs.Proving.Came.Came.{came_wrote, came_read, came_fault, came_no_space, came_put, came_get, came_zeros, came_evict, came_load}
-use Rattle.split_types.specs.Proving.Came.Came.{came_serve, came_skip, came_map, came_grow, came_add, came_send, came_done}
+use Rattle.split_types.specs.Proving.Came.Came.{came_flushed, came_synced, came_seal, came_journal, came_serve, came_skip, came_map, came_grow, came_add, came_send, came_done}
 use Rattle.split_types.specs.Proving.Known.{Known}
 use Rattle.split_types.proofs.CameLaws.{came}
 use Rattle.split_types.proofs.History.{event_at-new, event_at-stays, event_at-within}
-use Rattle.split_types.proofs.KnownLaws.{known, picked_there, queued_of}
+use Rattle.split_types.proofs.KnownLaws.{known, queued_of}
+use Rattle.split_types.proofs.RequestLaws.{picked_there}
 use Rattle.split_types.proofs.Lists.{count_push, count_filter_less, count_filter_out, counted_here}
 
 -- a request that was sent isn't queued any more
@@ -163,6 +164,23 @@ sent_next w h e id cost accepted f (came_load p c t piece here absent block at) 
     sent_add w h (Client p) (read_request (adds h) p t piece.page block) id cost refl s
 sent_next w h e id cost accepted f (came_add run block at there placed known) s =
     sent_add w h Wb (request_for (adds h) run block) id cost refl s
+sent_next w h e id cost accepted f (came_flushed p name t working idle down) s = record {
+  below = s.below;
+  gone = s.gone;
+  shown = s.shown;
+}
+sent_next w h e id cost accepted f (came_synced p name t working acted safe) s = record {
+  below = s.below;
+  gone = s.gone;
+  shown = s.shown;
+}
+sent_next w h e id cost accepted f (came_seal may) s = record {
+  below = s.below;
+  gone = s.gone;
+  shown = s.shown;
+}
+sent_next w h e id cost accepted f (came_journal kind first n j) s =
+    sent_add w h Cm (journal_request (adds h) kind first n) id cost refl s
 sent_next w h e id cost accepted f (came_send r free picked) s =
     let there = picked_there w h r accepted picked
     in let apart : (id.0 ≡ r.id.0 → ⊥) =

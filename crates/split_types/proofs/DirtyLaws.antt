@@ -12,7 +12,9 @@ use Rattle.split_types.specs.declared.ids.Slot.{Slot}
 use Rattle.split_types.specs.declared.buf.Buf.{Buf}
 use Rattle.split_types.specs.declared.buf.Buf.TheVariants.{Page, Bitmap, Dir, Inode}
 use Rattle.split_types.specs.declared.actor.Actor.{Actor}
-use Rattle.split_types.specs.declared.actor.Actor.TheVariants.{Client, Wb}
+use Rattle.split_types.specs.declared.actor.Actor.TheVariants.{Client, Wb, Cm}
+use Rattle.split_types.specs.declared.request.ReqKind.{ReqKind}
+use Rattle.split_types.specs.declared.request.ReqKind.TheVariants.{Log, Commit, Home, Clear}
 use Rattle.split_types.specs.declared.request.Request.{Request}
 use Rattle.split_types.specs.declared.request.Run.{Run}
 use Rattle.split_types.specs.declared.workload.Workload.{Workload}
@@ -28,7 +30,7 @@ use Rattle.split_types.specs.FileSlots.{next_serial}
 use Rattle.split_types.specs.ServedRuns.{first_ready, run_from, run_to_serve}
 use Rattle.split_types.specs.Serving.{request_for}
 use Rattle.split_types.specs.MapsInOrder.{AreMaps, IsServed}
-use Rattle.split_types.specs.Proving.Came.{read_request}
+use Rattle.split_types.specs.Proving.Came.{Journals, read_request, journal_request}
 use Rattle.split_types.proofs.Lists.{list_any_here, find_some}
 use Rattle.split_types.proofs.PageLaws.{page_stands}
 use Rattle.split_types.proofs.MapRuns.{least_passes}
@@ -188,6 +190,31 @@ dirty_load w h p s g block =
       arith,
       as_many (is_dirty w h) h (Add (Client p) (read_request (adds h) p s g block)) (dirty_known w h),
     )
+
+-- so does one of the journal
+pub dirty_journal : (w : Workload) (h : List Event) (kind : ReqKind) (first n : ℕ) → Journals w h kind first n
+    → dirty_pages w (h ▹ Add Cm (journal_request (adds h) kind first n)) ≤ dirty_pages w h
+dirty_journal w h (Log t) first n j =
+    omega (
+      arith,
+      as_many (is_dirty w h) h (Add Cm (journal_request (adds h) (Log t) first n)) (dirty_known w h),
+    )
+dirty_journal w h (Commit t) first n j =
+    omega (
+      arith,
+      as_many (is_dirty w h) h (Add Cm (journal_request (adds h) (Commit t) first n)) (dirty_known w h),
+    )
+dirty_journal w h (Home t) first n j =
+    omega (
+      arith,
+      as_many (is_dirty w h) h (Add Cm (journal_request (adds h) (Home t) first n)) (dirty_known w h),
+    )
+dirty_journal w h (Clear t) first n j =
+    omega (
+      arith,
+      as_many (is_dirty w h) h (Add Cm (journal_request (adds h) (Clear t) first n)) (dirty_known w h),
+    )
+dirty_journal w h kind first n j = absurd (j)
 
 -- no page of a file that is made was put before
 pub dirty_make : (w : Workload) (h : List Event) (p : Pid) (slot : Slot) → AreMaps w h

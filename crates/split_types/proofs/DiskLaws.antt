@@ -1,7 +1,7 @@
 -- The disk holds the bytes of every page that is neither dirty nor busy.
-use Rattle.std.proofs.Common.{◌≡◌, ℕ, ◌+◌, ◌-◌, ◌<◌, ◌≤◌, List, [], ◌∷◌, length, slice_get, filter, Bool, true, false, not, ◌&&◌, ◌||◌, ◌⊎◌, Option, Some, refl, arith, subst, sym, inl, inr, ap, ◌∙◌}
+use Rattle.std.proofs.Common.{◌≡◌, ℕ, ◌+◌, ◌-◌, ◌==◌, ◌<◌, ◌≤◌, List, [], ◌∷◌, length, slice_get, filter, Bool, true, false, not, ◌&&◌, ◌||◌, ◌⊎◌, Option, Some, refl, arith, subst, sym, inl, inr, ap, ◌∙◌}
 use Rattle.std.specs.List.{list_any}
-use Rattle.std.proofs.lemmas.Bool.{cases_Bool, both_ways, and_cases, or_parts, false_from_ne_true, not_from_false}
+use Rattle.std.proofs.lemmas.Bool.{cases_Bool, both_ways, eqb-true, and_parts, and_cases, or_cases, or_parts, false_from_ne_true, not_from_false}
 use Rattle.std.proofs.lemmas.List.{length-replicate}
 use Rattle.std.proofs.lemmas.List.Folds.{list_any-append}
 use Rattle.std.proofs.lemmas.Option.{same_Some, slice_get_within}
@@ -13,7 +13,7 @@ use Rattle.split_types.specs.declared.buf.Buf.TheVariants.{Page}
 use Rattle.split_types.specs.declared.request.Request.{Request}
 use Rattle.split_types.specs.declared.workload.Workload.{Workload}
 use Rattle.split_types.specs.declared.event.Event.{Event}
-use Rattle.split_types.specs.declared.event.Event.TheVariants.{Put, Map, Add, Done}
+use Rattle.split_types.specs.declared.event.Event.TheVariants.{Make, Drop, Put, Map, Add, Done}
 use Rattle.split_types.specs.History.{◌▹◌, adds}
 use Rattle.split_types.specs.Hooks.{maker, same_buf, covers}
 use Rattle.split_types.specs.Workloads.{first_block}
@@ -42,6 +42,7 @@ use Rattle.split_types.proofs.MapBlocks.{IsNew, map_cases}
 use Rattle.split_types.proofs.MapRuns.{free_is}
 use Rattle.split_types.proofs.PutLaws.{put_in_legal}
 use Rattle.split_types.proofs.HeldLaws.{same_buf-is, same_buf-self}
+use Rattle.split_types.proofs.PagesKeep.{made_serial}
 use Rattle.split_types.proofs.CoverLaws.{covered, writes_covered, carried_covered, written, writes_other}
 use Rattle.split_types.proofs.WriteLaws.{adding_new, adding_kept, adding_there, before_legal, left_run, IsDone, is_done}
 use Rattle.split_types.proofs.StartLaws.{start_data, start_page}
@@ -195,28 +196,28 @@ mapped_before w h slot t page n block new size s g x accepted legal at rested =
 
 -- ---- pages that are neither dirty nor busy
 pub clean_page : (w : Workload) (h : List Event) (s : Serial) (g x : ℕ) → IsAccepted w → IsLegal w h
-    → mapped_block w h s.0 g ≡ Some x → is_put_since h (Page s g) ≡ false
+    → is_live w h s.0 ≡ true → mapped_block w h s.0 g ≡ Some x → is_put_since h (Page s g) ≡ false
     → list_any (λ r. covers r (Page s g)) (unfinished h) ≡ false → disk_block w h x ≡ page_bytes w h s g
-clean_page w [] s g x accepted legal at rested idle = start_page w s g x at
-clean_page w (h ▹ Put by t k from to fill) s g x accepted legal at rested idle =
+clean_page w [] s g x accepted legal live at rested idle = start_page w s g x at
+clean_page w (h ▹ Put by t k from to fill) s g x accepted legal live at rested idle =
     let parts = or_parts (same_buf (Page s g) (Page t k)) (is_put_since h (Page s g)) rested
-    in clean_page w h s g x accepted legal.1 at parts.1 idle
+    in clean_page w h s g x accepted legal.1 live at parts.1 idle
     ∙ sym (other_put w h s t g k from to fill parts.0)
-clean_page w (h ▹ Map slot t page n block new size) s g x accepted legal at rested idle =
+clean_page w (h ▹ Map slot t page n block new size) s g x accepted legal live at rested idle =
     let before = mapped_before w h slot t page n block new size s g x accepted legal at rested
-    in clean_page w h s g x accepted legal.1 before rested idle
-clean_page w (h ▹ Add by r) s g x accepted legal at rested idle =
+    in clean_page w h s g x accepted legal.1 live before rested idle
+clean_page w (h ▹ Add by r) s g x accepted legal live at rested idle =
     let parts =
     or_parts (list_any (λ q. covers q (Page s g)) (unfinished h)) (covers r (Page s g) || false)
     (sym (list_any-append (λ q. covers q (Page s g)) (unfinished h) (r ∷ [])) ∙ idle)
-    in clean_page w h s g x accepted legal.1 at
+    in clean_page w h s g x accepted legal.1 live at
     (unput (covers r (Page s g)) (is_put_since h (Page s g)) (or_parts (covers r (Page s g)) false parts.1).0 rested)
     parts.0
   where
     unput : (taken put : Bool) → taken ≡ false → (not taken && put) ≡ false → put ≡ false
     unput true put none is = absurd (cc)
     unput false put none is = is
-clean_page w (h ▹ Done k id true) s g x accepted legal at rested idle =
+clean_page w (h ▹ Done k id true) s g x accepted legal live at rested idle =
     elim (cases_Bool (covers d.request (Page s g))) [
       | inl own ↦
           (let c = covered w h d.request s g x d.run at own
@@ -227,8 +228,8 @@ clean_page w (h ▹ Done k id true) s g x accepted legal at rested idle =
           (ap (adding h) d.number ∙ d.added))
       | inr other ↦
           after_other w (adding h id) d.request d.before x (disk_block w h x) d.added
-          (writes_other w h d.request s g x accepted legal.1 d.run at other)
-          ∙ clean_page w h s g x accepted legal.1 at rested
+          (writes_other w h d.place d.request s g x accepted legal.1 d.there d.run live at other)
+          ∙ clean_page w h s g x accepted legal.1 live at rested
           (idle_before w h id s g f d.request (f.waiting.left_of d.place d.request d.there) d.number other idle)
     ]
   where
@@ -237,24 +238,37 @@ clean_page w (h ▹ Done k id true) s g x accepted legal at rested idle =
 
     d : IsDone w h k id
     d = is_done w h k id accepted legal
-clean_page w (h ▹ e) s g x accepted legal at rested idle = clean_page w h s g x accepted legal.1 at rested idle
+clean_page w (h ▹ Make by slot serial) s g x accepted legal live at rested idle =
+    elim (or_cases (serial.0 == s.0) (is_live w h s.0) live) [
+      | inl new ↦
+          absurd (omega (
+            arith,
+            eqb-true serial.0 s.0 new,
+            made_serial w h by slot serial (came w h (maker (Make by slot serial)) (Make by slot serial) legal.0),
+            ((maps_known.maps w h accepted legal.1).placed s.0 g x at).numbered,
+          ))
+      | inr old ↦ clean_page w h s g x accepted legal.1 old at rested idle
+    ]
+clean_page w (h ▹ Drop by slot serial) s g x accepted legal live at rested idle =
+    clean_page w h s g x accepted legal.1 (and_parts (not (serial.0 == s.0)) (is_live w h s.0) live).1 at rested idle
+clean_page w (h ▹ e) s g x accepted legal live at rested idle = clean_page w h s g x accepted legal.1 live at rested idle
 
 -- ---- other blocks
--- a block that no page ever had keeps what it held at the start
-pub other_block : (w : Workload) (h : List Event) (x : ℕ) → IsAccepted w → IsLegal w h
+-- a block of data that no page ever had keeps what it held at the start
+pub other_block : (w : Workload) (h : List Event) (x : ℕ) → IsAccepted w → IsLegal w h → first_block w ≤ x
     → ((s : Serial) (g : ℕ) → mapped_block w h s.0 g ≡ Some x → ⊥) → disk_block w h x ≡ start_block w x
-other_block w [] x accepted legal none = refl
-other_block w (h ▹ Done k id true) x accepted legal none =
+other_block w [] x accepted legal from none = refl
+other_block w (h ▹ Done k id true) x accepted legal from none =
     let d = is_done w h k id accepted legal
     in after_other w (adding h id) d.request d.before x (disk_block w h x) d.added
     (false_from_ne_true (writes d.request x)
-    (λ is. (let there = written w h d.request x d.run is in none there.serial there.page there.at)))
-    ∙ other_block w h x accepted legal.1 none
-other_block w (h ▹ Map slot t page n block new size) x accepted legal none =
-    other_block w h x accepted legal.1
+    (λ is. (let there = written w h d.request x d.run from is in none there.serial there.page there.at)))
+    ∙ other_block w h x accepted legal.1 from none
+other_block w (h ▹ Map slot t page n block new size) x accepted legal from none =
+    other_block w h x accepted legal.1 from
     (λ s g at. none s g
     (maps_known.stays w h (Map slot t page n block new size) s.0 g x accepted legal at))
-other_block w (h ▹ e) x accepted legal none = other_block w h x accepted legal.1 none
+other_block w (h ▹ e) x accepted legal from none = other_block w h x accepted legal.1 from none
 
 -- ---- whole blocks
 -- every put of a legal history stays within its page
@@ -278,7 +292,7 @@ whole_block w (h ▹ Done k id true) x accepted legal from =
     let d = is_done w h k id accepted legal
     in elim (cases_Bool (writes d.request x)) [
       | inl is ↦
-          (let there = written w h d.request x d.run is
+          (let there = written w h d.request x d.run from is
           in let c = covered w h d.request there.serial there.page x d.run there.at there.covers_it
           in ap length (after_written w (adding h id) d.request d.before x (disk_block w h x) d.added is
           ∙ carried_covered w d.before d.request there.serial there.page x c)
@@ -298,7 +312,7 @@ on_disk w h s g x accepted legal live at = record {
   busy =
       λ k r rested there is. (let own = (known w h accepted legal).waiting.left_of k r there
       in let add = adding_there w h r.id.0 r accepted legal own
-      in let c = covered w h r s g x (left_run w h k r (known w h accepted legal) there) at is
+      in let c = covered w h r s g x (left_run w h k r accepted legal there) at is
       in record {
         before = add.0;
         added = add.1;
@@ -316,7 +330,7 @@ on_disk w h s g x accepted legal live at = record {
   where
     clean : is_unsettled w h (Page s g) ≡ false → disk_block w h x ≡ page_bytes w h s g
     clean none =
-        clean_page w h s g x accepted legal at (put_settled w h s g live none) (idle_settled w h s g live none)
+        clean_page w h s g x accepted legal live at (put_settled w h s g live none) (idle_settled w h s g live none)
 
 pub clean_pages_are_on_disk : CleanPagesAreOnDisk
 clean_pages_are_on_disk = record { pages = on_disk; others = other_block; whole = whole_block }

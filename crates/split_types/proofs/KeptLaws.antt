@@ -13,7 +13,7 @@ use Rattle.split_types.specs.declared.buf.Buf.TheVariants.{Page}
 use Rattle.split_types.specs.declared.call.Reply.{Reply}
 use Rattle.split_types.specs.declared.call.Reply.TheVariants as reply
 use Rattle.split_types.specs.declared.actor.Actor.{Actor}
-use Rattle.split_types.specs.declared.actor.Actor.TheVariants.{Client, Wb}
+use Rattle.split_types.specs.declared.actor.Actor.TheVariants.{Client, Wb, Cm}
 use Rattle.split_types.specs.declared.request.Request.{Request}
 use Rattle.split_types.specs.declared.workload.Workload.{Workload}
 use Rattle.split_types.specs.declared.event.Event.{Event}
@@ -30,11 +30,12 @@ use Rattle.split_types.specs.Reads.{reads, outstanding, is_loading, request_numb
 use Rattle.split_types.specs.HeldPages.{is_placed, is_held, is_unsettled}
 use Rattle.split_types.specs.Victims.{pinned_by, is_evictable, victim}
 use Rattle.split_types.specs.Serving.{request_for}
-use Rattle.split_types.specs.Proving.Came.{Came, read_request}
+use Rattle.split_types.specs.Proving.Came.{Came, read_request, journal_request}
 use Rattle.split_types.specs.Proving.Came.Came.{came_enter, came_admit, came_changed, came_exists, came_no_slot, came_make, came_drop, came_no_file, came_too_big}
 use Rattle.split_types.specs.Proving.Came.Came.{came_wrote, came_read, came_fault, came_no_space, came_put, came_get, came_zeros, came_evict, came_load}
-use Rattle.split_types.specs.Proving.Came.Came.{came_serve, came_skip, came_map, came_grow, came_add, came_send, came_done}
+use Rattle.split_types.specs.Proving.Came.Came.{came_flushed, came_synced, came_seal, came_journal, came_serve, came_skip, came_map, came_grow, came_add, came_send, came_done}
 use Rattle.split_types.specs.Proving.Known.{Known}
+use Rattle.split_types.proofs.JournalAdds.{of_journal}
 use Rattle.split_types.proofs.Lists.{any_weaker, none_in_filter, any_in_filter, any_push_no, none_in_both}
 use Rattle.split_types.proofs.KeptLists.{case_true, case_false}
 use Rattle.split_types.proofs.WaitingLaws.{number_here}
@@ -353,5 +354,12 @@ kept_next w h e p b f n (came_map run free serves there none at) asked k = k
 kept_next w h e p b f n (came_grow run block serves there at short) asked k = k
 kept_next w h e p b f n (came_add run block at there placed long) asked k =
     kept_add h Wb (request_for (adds h) run block) p b refl refl k
+kept_next w h e p b f n (came_flushed q name s working idle down) asked k = k
+kept_next w h e p b f n (came_synced q name s working acted safe) asked k =
+    kept_ret h q reply.Done p b (not_by (q.0 == p) (has_asked h p) asked).0 k
+kept_next w h e p b f n (came_seal may) asked k = k
+kept_next w h e p b f n (came_journal kind first m j) asked k =
+    kept_add h Cm (journal_request (adds h) kind first m) p b refl
+    ((of_journal w h (adds h) kind first m j).reads_none b) k
 kept_next w h e p b f n (came_send r free picked) asked k = k
 kept_next w h e p b f n (came_done j r at) asked k = kept_done w h j r p b f n at k

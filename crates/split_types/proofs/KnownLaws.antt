@@ -1,26 +1,28 @@
 -- What is known of every legal history of an accepted workload, event by event.
-use Rattle.std.proofs.Common.{◌≡◌, ℕ, zero, suc, ◌+◌, ◌-◌, ◌==◌, ◌<◌, ◌≤◌, List, [], ◌∷◌, ◌++◌, slice_get, filter, Bool, true, false, not, ◌⊎◌, Option, Some, None, refl, arith, subst, sym, inl, inr, ◌∙◌, ap, cond, nat_lt, if◌then◌else◌}
+use Rattle.std.proofs.Common.{◌≡◌, ℕ, zero, suc, ◌+◌, ◌-◌, ◌==◌, ◌<◌, ◌≤◌, List, [], ◌∷◌, ◌++◌, slice_get, Bool, true, false, not, Option, Some, None, refl, arith, subst, sym, inl, inr, ap, cond, nat_lt, if◌then◌else◌}
 use Rattle.std.specs.List.{list_any}
-use Rattle.std.proofs.lemmas.Bool.{cond_both, cond-false, ne_eqb, eqb-true, cases_Bool}
+use Rattle.std.proofs.lemmas.Bool.{both_ways, cond_both, eqb-true, cases_Bool}
 use Rattle.std.proofs.lemmas.Bool.Decides.{nat_tests}
 use Rattle.std.proofs.lemmas.Option.{slice_get_within}
 use Rattle.split_types.specs.declared.ids.Pid.{Pid}
 use Rattle.split_types.specs.declared.ids.Serial.{Serial}
+use Rattle.split_types.specs.declared.buf.Buf.{Buf}
 use Rattle.split_types.specs.declared.buf.Buf.TheVariants.{Page}
+use Rattle.split_types.specs.declared.actor.Actor.{Actor}
 use Rattle.split_types.specs.declared.request.Request.{Request}
 use Rattle.split_types.specs.declared.request.Run.{Run}
 use Rattle.split_types.specs.declared.workload.Workload.{Workload}
-use Rattle.split_types.specs.declared.facts.ReqState.{ReqState}
-use Rattle.split_types.specs.declared.facts.ReqState.TheVariants as state
 use Rattle.split_types.specs.declared.event.Event.{Event}
-use Rattle.split_types.specs.declared.event.Event.TheVariants.{Make}
+use Rattle.split_types.specs.declared.event.Event.TheVariants.{Make, Add, Send, Done, Tick}
 use Rattle.split_types.specs.History.{◌▹◌, adds}
 use Rattle.split_types.specs.Hooks.{maker, covers, is_among}
-use Rattle.split_types.specs.Requests.{is_numbered, is_write, requests, queued, in_flight, unfinished, state_of, sends}
+use Rattle.split_types.specs.Requests.{is_numbered, requests, queued, in_flight, unfinished}
 use Rattle.split_types.specs.CostAndClock.{head, cost_at, cost_of, now, first_of, length_of, seek, distance}
 use Rattle.split_types.specs.Pages.{is_ready}
 use Rattle.split_types.specs.FileMaps.{mapped_block}
-use Rattle.split_types.specs.Schedulers.{pick, earlier, eligible_write, is_eligible, oldest_read, oldest_write}
+use Rattle.split_types.specs.Schedulers.{pick}
+use Rattle.split_types.specs.Transactions.{is_of_commit}
+use Rattle.split_types.specs.Workloads.{first_block}
 use Rattle.split_types.specs.Writeback.{service, served_run}
 use Rattle.split_types.specs.Serving.{request_for}
 use Rattle.split_types.specs.ServedRuns.{are_apart}
@@ -29,50 +31,19 @@ use Rattle.split_types.specs.MapsInOrder.{AreMaps, IsServed, MapsAreInOrder}
 use Rattle.split_types.specs.Next.{send_of}
 use Rattle.split_types.specs.Accepted.{IsAccepted}
 use Rattle.split_types.specs.Legal.{IsLegal}
-use Rattle.split_types.specs.Proving.Came.{Came, read_request}
-use Rattle.split_types.specs.Proving.Came.Came.{came_enter, came_admit, came_changed, came_exists, came_no_slot, came_make, came_drop, came_no_file, came_too_big}
-use Rattle.split_types.specs.Proving.Came.Came.{came_wrote, came_read, came_fault, came_no_space, came_put, came_get, came_zeros, came_evict, came_load}
-use Rattle.split_types.specs.Proving.Came.Came.{came_serve, came_skip, came_map, came_grow, came_add, came_send, came_done}
+use Rattle.split_types.specs.Proving.Came.{Came, read_request, journal_request}
+use Rattle.split_types.specs.Proving.Came.Came.{came_load, came_add, came_journal, came_send, came_done}
 use Rattle.split_types.specs.Proving.Runs.{MovesRun}
-use Rattle.split_types.specs.Proving.Known.{Known, AreUnmade, MoveRuns, TakeOnce, AreSmall, RiseTo, dones}
+use Rattle.split_types.specs.Proving.JournalKnown.{JournalKnown}
+use Rattle.split_types.specs.Proving.Known.{Known, KnownRequests, MoveRuns, HasRun, TakeOnce, AreSmall, dones}
 use Rattle.split_types.proofs.CameLaws.{came}
 use Rattle.split_types.proofs.MapLaws.{maps_are_in_order}
 use Rattle.split_types.proofs.PromiseLaws.{promised}
-use Rattle.split_types.proofs.Lists.{slice_get-push, find_there, count_push, count_none, count_filter_less}
-use Rattle.split_types.proofs.WaitingLaws.{numbered_push, waiting_add, waiting_send, waiting_done}
+use Rattle.split_types.proofs.Lists.{slice_get-push, count_push, count_none, count_filter_less}
+use Rattle.split_types.proofs.JournalAdds.{of_journal}
+use Rattle.split_types.proofs.JournalStepsAdds.{journal_known}
+use Rattle.split_types.proofs.RequestLaws.{picked_there, known_requests}
 use Rattle.split_types.proofs.ReadyLaws.{ready_parts}
-
--- ---- what is picked is queued
-earlier_is : (a b : Option Request) (r : Request) → earlier a b ≡ Some r → (a ≡ Some r) ⊎ (b ≡ Some r)
-earlier_is None b r is = inr is
-earlier_is (Some q) None r is = inl is
-earlier_is (Some q) (Some p) r is = by_test (nat_lt q.id.0 p.id.0) is
-  where
-    by_test : (b : Bool) → (if b then Some q else Some p) ≡ Some r → (Some q ≡ Some r) ⊎ (Some p ≡ Some r)
-    by_test true at = inl at
-    by_test false at = inr at
-
-eligible_is : (h : List Event) (o : Option Request) (r : Request)
-    → (elim o [ None ↦ None | Some q ↦ if is_eligible h q then Some q else None ]) ≡ Some r → o ≡ Some r
-eligible_is h None r is = absurd (cc)
-eligible_is h (Some q) r is = by_test (is_eligible h q) is
-  where
-    by_test : (b : Bool) → (if b then Some q else None) ≡ Some r → Some q ≡ Some r
-    by_test true at = at
-    by_test false at = absurd (cc)
-
-pub fifo_picks : (w : Workload) (h : List Event) → IsAccepted w → pick w h ≡ earlier (eligible_write h) (oldest_read h)
-fifo_picks w h accepted = rw accepted.built.sched refl
-
-pub picked_there : (w : Workload) (h : List Event) (r : Request) → IsAccepted w → pick w h ≡ Some r
-    → (k : ℕ) × (slice_get (queued h) k ≡ Some r)
-picked_there w h r accepted picked = elim (earlier_is (eligible_write h) (oldest_read h) r
-    (sym (fifo_picks w h accepted) ∙ picked)) [
-      | inl write ↦
-          (let there = find_there is_write (queued h) r (eligible_is h (oldest_write h) r write)
-          in (there.0, there.1))
-      | inr read ↦ (let there = find_there (λ q. not (is_write q)) (queued h) r read in (there.0, there.1))
-    ]
 
 -- ---- pages that are taken
 same_serial : (s t : Serial) → s.0 ≡ t.0 → s ≡ t
@@ -114,55 +85,22 @@ take_add w h run block all_ready once s g =
         (same_serial run.serial s within.0) here)
         in (ready_parts w h s g ready).idle
 
--- ---- requests that aren't added yet
-unmade_add : (count : ℕ) (cost : ℕ → ℕ) (at : ℕ → ReqState) → AreUnmade count cost at → AreUnmade (count + 1) cost at
-unmade_add count cost at u = record {
-  cost_none = λ id past. u.cost_none id (omega arith);
-  state_none = λ id past. u.state_none id (omega arith);
-}
-
-unmade_done : (count n : ℕ) (to : ReqState) (cost : ℕ → ℕ) (at : ℕ → ReqState) → n < count → AreUnmade count cost at
-    → AreUnmade count cost (λ id. cond (n == id) to (at id))
-unmade_done count n to cost at below u = record {
-  cost_none = u.cost_none;
-  state_none =
-      λ id past. cond-false (n == id) to (at id) (ne_eqb n id (λ (e : n ≡ id). omega arith)) ∙ u.state_none id past;
-}
-
--- ---- rising numbers
-rise_push : (low : ℕ) (rs : List Request) (high : ℕ) (r : Request) → r.id.0 ≡ high → RiseTo low rs high
-    → RiseTo low (rs ++ r ∷ []) (high + 1)
-rise_push low [] high r is rise = (omega (arith, is, rise), omega (arith, is))
-rise_push low (q ∷ rs) high r is rise = (rise.0, rise_push (q.id.0 + 1) rs high r is rise.1)
-
-rise_lower : (low least : ℕ) (rs : List Request) (high : ℕ) → least ≤ low → RiseTo low rs high → RiseTo least rs high
-rise_lower low least [] high below rise = omega (arith, below, rise)
-rise_lower low least (r ∷ rs) high below rise = (omega (arith, below, rise.0), rise.1)
-
-rise_filter : (low : ℕ) (rs : List Request) (high : ℕ) (p : Request → Bool) → RiseTo low rs high
-    → RiseTo low (filter p rs) high
-rise_filter low [] high p rise = rise
-rise_filter low (r ∷ rs) high p rise = by_test (p r) (rise_filter (r.id.0 + 1) rs high p rise.1)
-  where
-    by_test : (b : Bool) → RiseTo (r.id.0 + 1) (filter p rs) high
-        → RiseTo low (if b then r ∷ filter p rs else filter p rs) high
-    by_test true rest = (rise.0, rest)
-    by_test false rest = rise_lower (r.id.0 + 1) low (filter p rs) high (omega (arith, rise.0)) rest
-
 -- ---- runs
 runs_push : (total : ℕ) (block_of : ℕ → ℕ → Option ℕ) (all : List Request) (r : Request)
-    → MovesRun total block_of r → MoveRuns total block_of all → MoveRuns total block_of (all ++ r ∷ [])
-runs_push total block_of all r run runs i q at =
+    → (is_of_commit r ≡ false → MovesRun total block_of r) → MoveRuns total block_of all
+    → MoveRuns total block_of (all ++ r ∷ [])
+runs_push total block_of all r run runs i q at none =
     elim (slice_get-push all r i q at) [
-      | inl old ↦ runs i q old
-      | inr new ↦ subst (MovesRun total block_of) new.1 run
+      | inl old ↦ runs i q old none
+      | inr new ↦
+          subst (MovesRun total block_of) new.1 (run (subst (λ x. is_of_commit x ≡ false) (sym new.1) none))
     ]
 
 -- a request keeps its pages where there come more files, and a page that has a block keeps it
 pub runs_stay : (total more : ℕ) (was now : ℕ → ℕ → Option ℕ) (all : List Request) → total ≤ more
     → ((s g x : ℕ) → was s g ≡ Some x → now s g ≡ Some x) → MoveRuns total was all → MoveRuns more now all
-runs_stay total more was now all most stays runs i r at =
-    let run = runs i r at
+runs_stay total more was now all most stays runs i r at none =
+    let run = runs i r at none
     in record {
       serial = run.serial;
       page = run.page;
@@ -224,6 +162,35 @@ run_within w h r accepted maps run =
     in let placed = maps.placed run.serial.0 (run.page + (r.n - 1)) (r.first + (r.n - 1)) last
     in omega (arith, placed.to, run.run.some)
 
+-- whatever a request moves
+pub has_run : (w : Workload) (h : List Event) (i : ℕ) (r : Request)
+    → MoveRuns (all_files w h) (mapped_block w h) (requests h) → JournalKnown w h → slice_get (requests h) i ≡ Some r
+    → HasRun w h r
+has_run w h i r runs j at = elim (cases_Bool (is_of_commit r)) [
+  | inl is ↦ inr (j.runs i r at is)
+  | inr none ↦ inl (runs i r at none)
+]
+
+-- the blocks of data begin early on the disk
+first_block_most : (w : Workload) → first_block w ≤ 1318
+first_block_most w = by_version (nat_lt w.version 2)
+  where
+    by_version : (b : Bool) → ◌≤◌ (if b then 526 else 1318) 1318
+    by_version true = omega arith
+    by_version false = omega arith
+
+-- it ends within the largest disk
+pub ends_within : (w : Workload) (h : List Event) (r : Request) → IsAccepted w → AreMaps w h → HasRun w h r
+    → r.first + r.n ≤ 32768
+ends_within w h r accepted maps (inl run) =
+    omega (arith, run_within w h r accepted maps run, accepted.workload.machine.device_most)
+ends_within w h r accepted maps (inr j) = omega (arith, j.within, first_block_most w)
+
+-- and is at most as long as the longest log
+pub longest : (w : Workload) (h : List Event) (r : Request) → HasRun w h r → r.n ≤ 262
+longest w h r (inl run) = omega (arith, run.run.most)
+longest w h r (inr j) = j.most
+
 -- ---- numbers
 pub seek_most : (x : ℕ) → seek x ≤ 100
 seek_most x = grind (arith, nat_tests)
@@ -233,7 +200,7 @@ pub record RequestOf (w : Workload) (h : List Event) (id : ℕ) (r : Request) : 
   pub number : r.id.0 ≡ id
   pub first_is : first_of h id ≡ r.first
   pub length_is : length_of h id ≡ r.n
-  pub run : MovesRun (all_files w h) (mapped_block w h) r
+  pub run : is_of_commit r ≡ false → MovesRun (all_files w h) (mapped_block w h) r
   pub below : id < adds h
 
 pub request_of : (w : Workload) (h : List Event) (id : ℕ) (r : Request) → Known w h
@@ -255,27 +222,22 @@ pub flight_of : (w : Workload) (h : List Event) (k : ℕ) (r : Request) → Know
     → slice_get (in_flight h) k ≡ Some r → RequestOf w h r.id.0 r
 flight_of w h k r f at = request_of w h r.id.0 r f (f.waiting.flight_of k r at)
 
-cost_sent : (w : Workload) (h : List Event) (id : ℕ) (r : Request) → RequestOf w h id r
-    → cost_at (head h) (first_of h id) (length_of h id) ≤ 132
-cost_sent w h id r of = omega (arith, seek_most (distance (first_of h id) (head h)), of.length_is, of.run.run.most)
+cost_sent : (w : Workload) (h : List Event) (id : ℕ) (r : Request) → RequestOf w h id r → HasRun w h r
+    → cost_at (head h) (first_of h id) (length_of h id) ≤ 624
+cost_sent w h id r of run =
+    omega (arith, seek_most (distance (first_of h id) (head h)), of.length_is, longest w h r run)
 
 small_send : (w : Workload) (h : List Event) (r : Request) → IsAccepted w → AreMaps w h → RequestOf w h r.id.0 r
-    → AreSmall (head h) (cost_of h) (now h) (dones h)
+    → HasRun w h r → AreSmall (head h) (cost_of h) (now h) (dones h)
     → AreSmall (head (h ▹ send_of h r)) (cost_of (h ▹ send_of h r)) (now h) (dones h)
-small_send w h r accepted maps of small = record {
+small_send w h r accepted maps of run small = record {
   head_most =
-      omega (
-        arith,
-        of.first_is,
-        of.length_is,
-        run_within w h r accepted maps of.run,
-        accepted.workload.machine.device_most,
-      );
+      omega (arith, of.first_is, of.length_is, ends_within w h r accepted maps run);
   cost_most =
       λ id. cond_both (id == r.id.0) (cost_at (head h) (first_of h id) (length_of h id)) (cost_of h id)
-      (λ n. n ≤ 132)
-      (λ same. subst (λ j. cost_at (head h) (first_of h j) (length_of h j) ≤ 132) (sym (eqb-true id r.id.0 same))
-      (cost_sent w h r.id.0 r of))
+      (λ n. n ≤ 624)
+      (λ same. subst (λ j. cost_at (head h) (first_of h j) (length_of h j) ≤ 624) (sym (eqb-true id r.id.0 same))
+      (cost_sent w h r.id.0 r of run))
       (λ other. small.cost_most id);
   clock_most = small.clock_most;
 }
@@ -289,29 +251,30 @@ small_done stands cost clock done id small = record {
 }
 
 -- ---- every legal history
-pub known_none : (w : Workload) → Known w []
-known_none w = record {
-  numbered = record {
-    counted = refl;
-    number_is = λ i r at. absurd (cc);
-    first_is = λ i r at. absurd (cc);
-    length_is = λ i r at. absurd (cc);
-  };
-  waiting = record {
-    queue_of = λ k r at. absurd (cc);
-    flight_of = λ k r at. absurd (cc);
-    left_of = λ k r at. absurd (cc);
-    once = λ id. omega arith;
-    left_once = λ id. refl;
-    queue_long = refl;
-    flight_long = refl;
-  };
-  unmade = record { cost_none = λ id past. refl; state_none = λ id past. refl };
+-- what is known of the runs that requests move, of the pages that are taken, and of the numbers
+record KnownMoves (w : Workload) (h : List Event) : Type 0 where
+  pub runs : MoveRuns (all_files w h) (mapped_block w h) (requests h)
+  pub takes : TakeOnce (unfinished h)
+  pub small : AreSmall (head h) (cost_of h) (now h) (dones h)
+
+-- with what is known of the requests, that is all
+both_known : (w : Workload) (h : List Event) → KnownRequests h → KnownMoves w h → Known w h
+both_known w h f m = record {
+  numbered = f.numbered;
+  waiting = f.waiting;
+  unmade = f.unmade;
+  runs = m.runs;
+  takes = m.takes;
+  rises = f.rises;
+  small = m.small;
+  going = f.going;
+}
+
+moves_none : (w : Workload) → KnownMoves w []
+moves_none w = record {
   runs = λ i r at. absurd (cc);
   takes = λ s g. omega arith;
-  rises = omega arith;
   small = record { head_most = omega arith; cost_most = λ id. omega arith; clock_most = omega arith };
-  going = refl;
 }
 
 -- what the maps are before an event and after it
@@ -328,282 +291,54 @@ runs_next w h e maps runs =
     runs_stay (all_files w h) (all_files w (h ▹ e)) (mapped_block w h) (mapped_block w (h ▹ e)) (requests h) maps.files
     maps.stays runs
 
--- one more event that comes next
-pub known_next : (w : Workload) (h : List Event) (e : Event) → IsAccepted w → MapsBoth w h e → Known w h → Came w h e
-    → Known w (h ▹ e)
-known_next w h e accepted maps f (came_enter p c has out) = record {
-  numbered = f.numbered;
-  waiting = f.waiting;
-  unmade = f.unmade;
-  runs = runs_next w h e maps f.runs;
-  takes = f.takes;
-  rises = f.rises;
+-- a request of the journal takes no page
+take_none : (left : List Request) (r : Request) → ((b : Buf) → covers r b ≡ false) → TakeOnce left
+    → TakeOnce (left ++ r ∷ [])
+take_none left r none once s g =
+    omega (arith, count_push (λ q. covers q (Page s g)) left r, out (covers r (Page s g)) (none (Page s g)), once s g)
+  where
+    out : (b : Bool) → b ≡ false → ◌≡◌ {A = ℕ} (cond b 1 0) 0
+    out b e = rw e refl
+
+moves_add : (w : Workload) (h : List Event) (by : Actor) (r : Request) → MapsBoth w h (Add by r) → KnownMoves w h
+    → Came w h (Add by r) → KnownMoves w (h ▹ Add by r)
+moves_add w h by r maps f (came_load p c s piece here absent block at) = record {
+  runs =
+      runs_push (all_files w h) (mapped_block w h) (requests h) (read_request (adds h) p s piece.page block)
+      (λ none. moves_load w h (adds h) p s piece.page block maps.before at) f.runs;
+  takes = take_none (unfinished h) (read_request (adds h) p s piece.page block) (λ b. refl) f.takes;
   small = f.small;
-  going = f.going;
 }
-known_next w h e accepted maps f (came_admit q c has is out may) = record {
-  numbered = f.numbered;
-  waiting = f.waiting;
-  unmade = f.unmade;
-  runs = runs_next w h e maps f.runs;
-  takes = f.takes;
-  rises = f.rises;
-  small = f.small;
-  going = f.going;
-}
-known_next w h e accepted maps f (came_changed p c admitted names acted) = record {
-  numbered = f.numbered;
-  waiting = f.waiting;
-  unmade = f.unmade;
-  runs = runs_next w h e maps f.runs;
-  takes = f.takes;
-  rises = f.rises;
-  small = f.small;
-  going = f.going;
-}
-known_next w h e accepted maps f (came_exists p name admitted idle taken) = record {
-  numbered = f.numbered;
-  waiting = f.waiting;
-  unmade = f.unmade;
-  runs = runs_next w h e maps f.runs;
-  takes = f.takes;
-  rises = f.rises;
-  small = f.small;
-  going = f.going;
-}
-known_next w h e accepted maps f (came_no_slot p name admitted idle unused none) = record {
-  numbered = f.numbered;
-  waiting = f.waiting;
-  unmade = f.unmade;
-  runs = runs_next w h e maps f.runs;
-  takes = f.takes;
-  rises = f.rises;
-  small = f.small;
-  going = f.going;
-}
-known_next w h e accepted maps f (came_make p name slot admitted idle unused at) = record {
-  numbered = f.numbered;
-  waiting = f.waiting;
-  unmade = f.unmade;
-  runs = runs_next w h e maps f.runs;
-  takes = f.takes;
-  rises = f.rises;
-  small = f.small;
-  going = f.going;
-}
-known_next w h e accepted maps f (came_drop p name serial working idle) = record {
-  numbered = f.numbered;
-  waiting = f.waiting;
-  unmade = f.unmade;
-  runs = runs_next w h e maps f.runs;
-  takes = f.takes;
-  rises = f.rises;
-  small = f.small;
-  going = f.going;
-}
-known_next w h e accepted maps f (came_no_file q c admitted none) = record {
-  numbered = f.numbered;
-  waiting = f.waiting;
-  unmade = f.unmade;
-  runs = runs_next w h e maps f.runs;
-  takes = f.takes;
-  rises = f.rises;
-  small = f.small;
-  going = f.going;
-}
-known_next w h e accepted maps f (came_too_big p name off len fill s working big) = record {
-  numbered = f.numbered;
-  waiting = f.waiting;
-  unmade = f.unmade;
-  runs = runs_next w h e maps f.runs;
-  takes = f.takes;
-  rises = f.rises;
-  small = f.small;
-  going = f.going;
-}
-known_next w h e accepted maps f (came_wrote q name off len fill s working none) = record {
-  numbered = f.numbered;
-  waiting = f.waiting;
-  unmade = f.unmade;
-  runs = runs_next w h e maps f.runs;
-  takes = f.takes;
-  rises = f.rises;
-  small = f.small;
-  going = f.going;
-}
-known_next w h e accepted maps f (came_read q name off len s working none) = record {
-  numbered = f.numbered;
-  waiting = f.waiting;
-  unmade = f.unmade;
-  runs = runs_next w h e maps f.runs;
-  takes = f.takes;
-  rises = f.rises;
-  small = f.small;
-  going = f.going;
-}
-known_next w h e accepted maps f (came_fault q c s piece working left bad) = record {
-  numbered = f.numbered;
-  waiting = f.waiting;
-  unmade = f.unmade;
-  runs = runs_next w h e maps f.runs;
-  takes = f.takes;
-  rises = f.rises;
-  small = f.small;
-  going = f.going;
-}
-known_next w h e accepted maps f (came_no_space p name off len fill s piece here out none) = record {
-  numbered = f.numbered;
-  waiting = f.waiting;
-  unmade = f.unmade;
-  runs = runs_next w h e maps f.runs;
-  takes = f.takes;
-  rises = f.rises;
-  small = f.small;
-  going = f.going;
-}
-known_next w h e accepted maps f (came_put p name off len fill s piece here may) = record {
-  numbered = f.numbered;
-  waiting = f.waiting;
-  unmade = f.unmade;
-  runs = runs_next w h e maps f.runs;
-  takes = f.takes;
-  rises = f.rises;
-  small = f.small;
-  going = f.going;
-}
-known_next w h e accepted maps f (came_get p name off len s piece here held) = record {
-  numbered = f.numbered;
-  waiting = f.waiting;
-  unmade = f.unmade;
-  runs = runs_next w h e maps f.runs;
-  takes = f.takes;
-  rises = f.rises;
-  small = f.small;
-  going = f.going;
-}
-known_next w h e accepted maps f (came_zeros p name off len s piece here absent none) = record {
-  numbered = f.numbered;
-  waiting = f.waiting;
-  unmade = f.unmade;
-  runs = runs_next w h e maps f.runs;
-  takes = f.takes;
-  rises = f.rises;
-  small = f.small;
-  going = f.going;
-}
-known_next w h e accepted maps f (came_evict p c s piece here absent t g found) = record {
-  numbered = f.numbered;
-  waiting = f.waiting;
-  unmade = f.unmade;
-  runs = runs_next w h e maps f.runs;
-  takes = f.takes;
-  rises = f.rises;
-  small = f.small;
-  going = f.going;
-}
-known_next w h e accepted maps f (came_serve run idle found) = record {
-  numbered = f.numbered;
-  waiting = f.waiting;
-  unmade = f.unmade;
-  runs = runs_next w h e maps f.runs;
-  takes = f.takes;
-  rises = f.rises;
-  small = f.small;
-  going = f.going;
-}
-known_next w h e accepted maps f (came_skip run at gone) = record {
-  numbered = f.numbered;
-  waiting = f.waiting;
-  unmade = f.unmade;
-  runs = runs_next w h e maps f.runs;
-  takes = f.takes;
-  rises = f.rises;
-  small = f.small;
-  going = f.going;
-}
-known_next w h e accepted maps f (came_map run free serves there none at) = record {
-  numbered = f.numbered;
-  waiting = f.waiting;
-  unmade = f.unmade;
-  runs = runs_next w h e maps f.runs;
-  takes = f.takes;
-  rises = f.rises;
-  small = f.small;
-  going = f.going;
-}
-known_next w h e accepted maps f (came_grow run block serves there at short) = record {
-  numbered = f.numbered;
-  waiting = f.waiting;
-  unmade = f.unmade;
-  runs = runs_next w h e maps f.runs;
-  takes = f.takes;
-  rises = f.rises;
-  small = f.small;
-  going = f.going;
-}
-known_next w h e accepted maps f (came_load p c s piece here absent block at) =
-    let r = read_request (adds h) p s piece.page block
-    in record {
-      numbered = numbered_push (requests h) (adds h) (first_of h) (length_of h) r refl f.numbered;
-      waiting =
-          waiting_add (requests h) (queued h) (in_flight h) (unfinished h) (sends h) (dones h) r
-          f.numbered.counted f.waiting;
-      unmade = unmade_add (adds h) (cost_of h) (state_of h) f.unmade;
-      runs =
-          runs_push (all_files w h) (mapped_block w h) (requests h) r
-          (moves_load w h (adds h) p s piece.page block maps.before at) f.runs;
-      takes =
-          λ t g. omega (arith, count_push (λ q. covers q (Page t g)) (unfinished h) r, f.takes t g);
-      rises = rise_push 0 (queued h) (adds h) r refl f.rises;
-      small = f.small;
-      going = f.going;
-    }
-known_next w h e accepted maps f (came_add run block at there placed known) =
+moves_add w h by r maps f (came_add run block at there placed long) =
     let served = maps.served run at
     in record {
-      numbered =
-          numbered_push (requests h) (adds h) (first_of h) (length_of h)
-          (request_for (adds h) run block) refl f.numbered;
-      waiting =
-          waiting_add (requests h) (queued h) (in_flight h) (unfinished h) (sends h) (dones h)
-          (request_for (adds h) run block) f.numbered.counted f.waiting;
-      unmade = unmade_add (adds h) (cost_of h) (state_of h) f.unmade;
       runs =
           runs_push (all_files w h) (mapped_block w h) (requests h) (request_for (adds h) run block)
-          (moves_served w h (adds h) run block served placed) f.runs;
+          (λ none. moves_served w h (adds h) run block served placed) f.runs;
       takes = take_add w h run block (served.ready there) f.takes;
-      rises = rise_push 0 (queued h) (adds h) (request_for (adds h) run block) refl f.rises;
       small = f.small;
-      going = f.going;
     }
-known_next w h e accepted maps f (came_send r free picked) =
-    let there = picked_there w h r accepted picked
-    in let of = queued_of w h there.0 r f there.1
+moves_add w h by r maps f (came_journal kind first n j) =
+    let of = of_journal w h (adds h) kind first n j
     in record {
-      numbered = f.numbered;
-      waiting =
-          waiting_send (requests h) (queued h) (in_flight h) (unfinished h) (sends h)
-          (dones h) there.0 r there.1 f.waiting;
-      unmade = sent_unmade r of.below;
-      runs = f.runs;
-      takes = f.takes;
-      rises = rise_filter 0 (queued h) (adds h) (λ q. not (is_numbered r.id q)) f.rises;
-      small = small_send w h r accepted maps.before of f.small;
-      going = f.going;
+      runs =
+          runs_push (all_files w h) (mapped_block w h) (requests h) (journal_request (adds h) kind first n)
+          (λ none. absurd (both_ways (is_of_commit (journal_request (adds h) kind first n)) none of.commits)) f.runs;
+      takes = take_none (unfinished h) (journal_request (adds h) kind first n) of.covers_none f.takes;
+      small = f.small;
     }
-  where
-    sent_unmade : (r : Request) → r.id.0 < adds h → AreUnmade (adds h) (cost_of (h ▹ send_of h r)) (state_of h)
-    sent_unmade r below = record {
-      cost_none =
-          λ id past. cond-false (id == r.id.0) (cost_at (head h) (first_of h id) (length_of h id)) (cost_of h id)
-          (ne_eqb id r.id.0 (λ (e : id ≡ r.id.0). omega arith))
-          ∙ f.unmade.cost_none id past;
-      state_none = f.unmade.state_none;
-    }
-known_next w h e accepted maps f (came_done k r at) = record {
-  numbered = f.numbered;
-  waiting = waiting_done (requests h) (queued h) (in_flight h) (unfinished h) (sends h) (dones h) k r at f.waiting;
-  unmade = unmade_done (adds h) r.id.0 state.Done (cost_of h) (state_of h) (flight_of w h k r f at).below f.unmade;
+
+moves_send : (w : Workload) (h : List Event) (r : Request) → IsAccepted w → AreMaps w h → pick w h ≡ Some r
+    → KnownRequests h → JournalKnown w h → KnownMoves w h → KnownMoves w (h ▹ send_of h r)
+moves_send w h r accepted maps picked known j f =
+    let there = picked_there w h r accepted picked
+    in let of = queued_of w h there.0 r (both_known w h known f) there.1
+    in let run = has_run w h r.id.0 r f.runs j (known.waiting.queue_of there.0 r there.1)
+    in record { runs = f.runs; takes = f.takes; small = small_send w h r accepted maps of run f.small }
+
+moves_done : (w : Workload) (h : List Event) (k : ℕ) (r : Request) → KnownMoves w h
+    → KnownMoves w (h ▹ Done k r.id true)
+moves_done w h k r f = record {
   runs = f.runs;
   takes =
       λ s g. omega (
@@ -611,9 +346,21 @@ known_next w h e accepted maps f (came_done k r at) = record {
         count_filter_less (λ q. covers q (Page s g)) (λ q. not (is_numbered r.id q)) (unfinished h),
         f.takes s g,
       );
-  rises = f.rises;
   small = small_done (head h) (cost_of h) (now h) (dones h) r.id.0 f.small;
-  going = f.going;
+}
+
+-- one more event that comes next
+moves_next : (w : Workload) (h : List Event) (e : Event) → IsAccepted w → MapsBoth w h e → KnownRequests h
+    → JournalKnown w h → KnownMoves w h → Came w h e → KnownMoves w (h ▹ e)
+moves_next w h (Add by r) accepted maps known j f row = moves_add w h by r maps f row
+moves_next w h (Send id cost) accepted maps known j f (came_send r free picked) =
+    moves_send w h r accepted maps.before picked known j f
+moves_next w h (Done i id ok) accepted maps known j f (came_done k r at) = moves_done w h k r f
+moves_next w h (Tick d) accepted maps known j f row = absurd (elim row [ ])
+moves_next w h e accepted maps known j f row = record {
+  runs = runs_next w h e maps f.runs;
+  takes = f.takes;
+  small = f.small;
 }
 
 -- ---- files and maps are in order
@@ -633,8 +380,11 @@ maps_both w h e accepted legal = record {
   served = λ run at. maps_known.served w h run accepted legal.1 at;
 }
 
+moves : (w : Workload) (h : List Event) → IsAccepted w → IsLegal w h → KnownMoves w h
+moves w [] accepted legal = moves_none w
+moves w (h ▹ e) accepted legal =
+    moves_next w h e accepted (maps_both w h e accepted legal) (known_requests w h accepted legal.1)
+    (journal_known w h accepted legal.1) (moves w h accepted legal.1) (came w h (maker e) e legal.0)
+
 pub known : (w : Workload) (h : List Event) → IsAccepted w → IsLegal w h → Known w h
-known w [] accepted legal = known_none w
-known w (h ▹ e) accepted legal =
-    known_next w h e accepted (maps_both w h e accepted legal) (known w h accepted legal.1)
-    (came w h (maker e) e legal.0)
+known w h accepted legal = both_known w h (known_requests w h accepted legal) (moves w h accepted legal)

@@ -28,7 +28,7 @@ use Rattle.split_types.specs.Legal.{IsLegal}
 use Rattle.split_types.specs.Proving.Came.{Came, IsAtPiece, read_request}
 use Rattle.split_types.specs.Proving.Came.Came.{came_enter, came_admit, came_changed, came_exists, came_no_slot, came_make, came_drop, came_no_file, came_too_big}
 use Rattle.split_types.specs.Proving.Came.Came.{came_wrote, came_read, came_fault, came_no_space, came_put, came_get, came_zeros, came_evict, came_load}
-use Rattle.split_types.specs.Proving.Came.Came.{came_serve, came_skip, came_map, came_grow, came_add, came_send, came_done}
+use Rattle.split_types.specs.Proving.Came.Came.{came_flushed, came_synced, came_seal, came_journal, came_serve, came_skip, came_map, came_grow, came_add, came_send, came_done}
 use Rattle.split_types.specs.Proving.Known.{Known}
 use Rattle.split_types.proofs.CameLaws.{came}
 use Rattle.split_types.proofs.KnownLaws.{known}
@@ -256,6 +256,17 @@ keeps_next w h e p f n (came_grow run block serves there at short) k =
 keeps_next w h e p f n (came_add run block at there placed long) k =
     keeps_if w h e p f n (came_add run block at there placed long) (λ asked. asked)
     (λ asked. refl) k.keeps
+keeps_next w h e p f n (came_flushed q name s working idle down) k =
+    keeps_if w h e p f n (came_flushed q name s working idle down) (λ asked. asked)
+    (λ asked. refl) k.keeps
+keeps_next w h e p f n (came_synced q name s working acted safe) k =
+    keeps_ret w h q reply.Done p f n (came_synced q name s working acted safe) k.keeps
+keeps_next w h e p f n (came_seal may) k =
+    keeps_if w h e p f n (came_seal may) (λ asked. asked)
+    (λ asked. refl) k.keeps
+keeps_next w h e p f n (came_journal kind first m j) k =
+    keeps_if w h e p f n (came_journal kind first m j) (λ asked. asked)
+    (λ asked. refl) k.keeps
 keeps_next w h e p f n (came_send r free picked) k =
     keeps_if w h e p f n (came_send r free picked) (λ asked. asked)
     (λ asked. refl) k.keeps
@@ -310,6 +321,10 @@ asks_next w h e p (came_skip run at gone) k = k.asks
 asks_next w h e p (came_map run free serves there none at) k = k.asks
 asks_next w h e p (came_grow run block serves there at short) k = k.asks
 asks_next w h e p (came_add run block at there placed long) k = k.asks
+asks_next w h e p (came_flushed q name s working idle down) k = k.asks
+asks_next w h e p (came_synced q name s working acted safe) k = asks_ret h q reply.Done p k.asks
+asks_next w h e p (came_seal may) k = k.asks
+asks_next w h e p (came_journal kind first m j) k = k.asks
 asks_next w h e p (came_send r free picked) k = k.asks
 asks_next w h e p (came_done j r at) k = k.asks
 

@@ -14,7 +14,7 @@ use Rattle.split_types.specs.declared.request.Run.{Run}
 use Rattle.split_types.specs.declared.workload.Workload.{Workload}
 use Rattle.split_types.specs.declared.event.Event.{Event}
 use Rattle.split_types.specs.declared.event.Event.TheVariants.{Put, Add, Done, Evict}
-use Rattle.split_types.specs.History.{◌▹◌}
+use Rattle.split_types.specs.History.{◌▹◌, adds}
 use Rattle.split_types.specs.Hooks.{maker, same_buf, is_among, covers}
 use Rattle.split_types.specs.Requests.{is_numbered, unfinished}
 use Rattle.split_types.specs.Files.{is_live, bound_file}
@@ -25,8 +25,9 @@ use Rattle.split_types.specs.Victims.{is_pinned}
 use Rattle.split_types.specs.Accepted.{IsAccepted}
 use Rattle.split_types.specs.Legal.{IsLegal}
 use Rattle.split_types.specs.Proving.Came.{Came}
-use Rattle.split_types.specs.Proving.Came.Came.{came_put, came_evict, came_load, came_add}
+use Rattle.split_types.specs.Proving.Came.Came.{came_put, came_evict, came_load, came_add, came_journal}
 use Rattle.split_types.proofs.CameLaws.{came}
+use Rattle.split_types.proofs.JournalAdds.{of_journal}
 use Rattle.split_types.proofs.KnownLaws.{maps_known}
 use Rattle.split_types.proofs.FileLaws.{live_of}
 use Rattle.split_types.proofs.ReadyLaws.{ReadyParts, ready_parts}
@@ -55,6 +56,8 @@ pub taken_ready : (w : Workload) (h : List Event) (by : Actor) (r : Request) (s 
 taken_ready w h by r s g accepted legal (came_load p c t piece here absent block at) is = absurd (cc)
 taken_ready w h by r s g accepted legal (came_add run block at there placed long) is =
     run_ready w h run s g ((maps_known.served w h run accepted legal at).ready there) is
+taken_ready w h by r s g accepted legal (came_journal kind first n j) is =
+    absurd (both_ways (covers r (Page s g)) ((of_journal w h (adds h) kind first n j).covers_none (Page s g)) is)
 
 -- ---- what is dirty or busy is in the cache
 -- what is evicted is a page of a file that is there, and neither dirty nor busy
@@ -197,6 +200,8 @@ read_absent w h by r s g (came_load p c t piece here absent block at) is =
       none = refl;
     }
 read_absent w h by r s g (came_add run block at there placed long) is = absurd (cc)
+read_absent w h by r s g (came_journal kind first n j) is =
+    absurd (let none = (of_journal w h (adds h) kind first n j).reads_none (Page s g) in cc)
 
 pub loading_rested : (w : Workload) (h : List Event) (s : Serial) (g : ℕ) → IsAccepted w → IsLegal w h
     → list_any (λ r. reads r (Page s g)) (outstanding h) ≡ true → IsRested h (Page s g)

@@ -6,13 +6,14 @@ use Rattle.std.proofs.lemmas.Option.{same_Some}
 use Rattle.split_types.specs.declared.workload.Workload.{Workload}
 use Rattle.split_types.specs.Workloads.{first_block}
 
--- which pages have which blocks, and which blocks stand in which map: each page is one that a file may have, each block
--- one of data, and none is the block of two pages
-pub record AreBlocks (w : Workload) (m : ℕ → ℕ → Option ℕ) (i : ℕ → ℕ → Bool) : Type 0 where
+-- which pages have which blocks, which blocks stand in which map, and which files keep theirs: each page is one that a
+-- file may have, each block one of data, and none is the block of two pages whose files keep their blocks
+pub record AreBlocks (w : Workload) (m : ℕ → ℕ → Option ℕ) (i : ℕ → ℕ → Bool) (keeps : ℕ → Bool) : Type 0 where
   pub page : (s g x : ℕ) → m s g ≡ Some x → g < 1008
   pub from : (s g x : ℕ) → m s g ≡ Some x → first_block w ≤ x
   pub to : (s g x : ℕ) → m s g ≡ Some x → x < w.device
-  pub apart : (s t g k x : ℕ) → m s g ≡ Some x → m t k ≡ Some x → (s ≡ t) × (g ≡ k)
+  pub apart : (s t g k x : ℕ) → m s g ≡ Some x → m t k ≡ Some x → keeps s ≡ true → keeps t ≡ true
+      → (s ≡ t) × (g ≡ k)
   pub in_map : (s g x : ℕ) → m s g ≡ Some x → i s x ≡ true
   pub of_map : (s x : ℕ) → i s x ≡ true → (g : ℕ) × (m s g ≡ Some x)
 
@@ -25,13 +26,13 @@ with_map m t page n block s g =
 abbrev pub with_blocks : (ℕ → ℕ → Bool) → ℕ → ℕ → ℕ → ℕ → ℕ → Bool
 with_blocks i t n block s x = (t == s && nat_le block x && nat_lt x (block + n)) || i s x
 
--- n pages of file t from `page` on may have the blocks from `block` on: no other page has these blocks, and the pages
--- have no other blocks
-pub record IsPlacing (w : Workload) (m : ℕ → ℕ → Option ℕ) (t page n block : ℕ) : Type 0 where
+-- n pages of file t from `page` on may have the blocks from `block` on: no other page of a file that keeps its blocks
+-- has these, and the pages have no other blocks
+pub record IsPlacing (w : Workload) (m : ℕ → ℕ → Option ℕ) (keeps : ℕ → Bool) (t page n block : ℕ) : Type 0 where
   pub within : page + n ≤ 1008
   pub from : (k : ℕ) → k < n → first_block w ≤ block + k
   pub to : (k : ℕ) → k < n → block + k < w.device
-  pub own : (s g k : ℕ) → k < n → m s g ≡ Some (block + k) → (s ≡ t) × (g ≡ page + k)
+  pub own : (s g k : ℕ) → k < n → m s g ≡ Some (block + k) → keeps s ≡ true → (s ≡ t) × (g ≡ page + k)
   pub same : (k x : ℕ) → k < n → m t (page + k) ≡ Some x → x ≡ block + k
 
 -- the map is that of this page: k pages behind its first one
@@ -70,9 +71,9 @@ map_here m t page n block k below =
     ∙ ap (λ y. Some (block + y)) (omega arith)
 
 -- a page keeps its block
-pub map_stays : (w : Workload) (m : ℕ → ℕ → Option ℕ) (t page n block s g x : ℕ) → IsPlacing w m t page n block
-    → m s g ≡ Some x → with_map m t page n block s g ≡ Some x
-map_stays w m t page n block s g x p at = by_test (t == s && nat_le page g && nat_lt g (page + n)) refl
+pub map_stays : (w : Workload) (m : ℕ → ℕ → Option ℕ) (keeps : ℕ → Bool) (t page n block s g x : ℕ)
+    → IsPlacing w m keeps t page n block → m s g ≡ Some x → with_map m t page n block s g ≡ Some x
+map_stays w m keeps t page n block s g x p at = by_test (t == s && nat_le page g && nat_lt g (page + n)) refl
   where
     by_test : (b : Bool) → (t == s && nat_le page g && nat_lt g (page + n)) ≡ b
         → (if b then Some (block + (g - page)) else m s g) ≡ Some x
@@ -85,11 +86,23 @@ map_stays w m t page n block s g x p at = by_test (t == s && nat_le page g && na
         ap Some (sym (p.same (g - page) x (omega (arith, within.1, within.2)) there))
     by_test false is = at
 
+-- where files with blocks no longer keep them, or all keep them as before
+pub blocks_keep : (w : Workload) (m : ℕ → ℕ → Option ℕ) (i : ℕ → ℕ → Bool) (keeps keep : ℕ → Bool)
+    → AreBlocks w m i keeps → ((s g x : ℕ) → m s g ≡ Some x → keep s ≡ true → keeps s ≡ true) → AreBlocks w m i keep
+blocks_keep w m i keeps keep b was = record {
+  page = b.page;
+  from = b.from;
+  to = b.to;
+  apart = λ s t g k x at there own also. b.apart s t g k x at there (was s g x at own) (was t k x there also);
+  in_map = b.in_map;
+  of_map = b.of_map;
+}
+
 -- through one more map
-pub blocks_map : (w : Workload) (m : ℕ → ℕ → Option ℕ) (i : ℕ → ℕ → Bool) (t page n block : ℕ) → AreBlocks w m i
-    → IsPlacing w m t page n block
-    → AreBlocks w (λ s g. with_map m t page n block s g) (λ s x. with_blocks i t n block s x)
-blocks_map w m i t page n block b p = record {
+pub blocks_map : (w : Workload) (m : ℕ → ℕ → Option ℕ) (i : ℕ → ℕ → Bool) (keeps : ℕ → Bool) (t page n block : ℕ)
+    → AreBlocks w m i keeps → IsPlacing w m keeps t page n block
+    → AreBlocks w (λ s g. with_map m t page n block s g) (λ s x. with_blocks i t n block s x) keeps
+blocks_map w m i keeps t page n block b p = record {
   page = λ s g x at. elim (map_cases m t page n block s g x at) [
     | inl new ↦ omega (arith, p.within, new.below, new.page_is)
     | inr old ↦ b.page s g x old
@@ -102,14 +115,14 @@ blocks_map w m i t page n block b p = record {
     | inl new ↦ omega (arith, p.to new.behind new.below, new.block_is)
     | inr old ↦ b.to s g x old
   ];
-  apart = λ s u g k x at there. elim (map_cases m t page n block s g x at) [
+  apart = λ s u g k x at there own also_own. elim (map_cases m t page n block s g x at) [
     | inl new ↦ elim (map_cases m t page n block u k x there) [
       | inl also ↦ both s u g k x new also
-      | inr old ↦ one s u g k x new old
+      | inr old ↦ one s u g k x new old also_own
     ]
     | inr old ↦ elim (map_cases m t page n block u k x there) [
-      | inl new ↦ (let turned = one u s k g x new old in (sym turned.0, sym turned.1))
-      | inr also ↦ b.apart s u g k x old also
+      | inl new ↦ (let turned = one u s k g x new old own in (sym turned.0, sym turned.1))
+      | inr also ↦ b.apart s u g k x old also own also_own
     ]
   ];
   in_map = λ s g x at. elim (map_cases m t page n block s g x at) [
@@ -119,7 +132,7 @@ blocks_map w m i t page n block b p = record {
   of_map = λ s x is. elim (or_cases (t == s && nat_le block x && nat_lt x (block + n)) (i s x) is) [
     | inl new ↦ of_new s x new
     | inr old ↦ (let page_of = b.of_map s x old
-        in (page_of.0, map_stays w m t page n block s page_of.0 x p page_of.1))
+        in (page_of.0, map_stays w m keeps t page n block s page_of.0 x p page_of.1))
   ];
 }
   where
@@ -127,9 +140,9 @@ blocks_map w m i t page n block b p = record {
     both s u g k x new also =
         (new.file ∙ sym also.file, omega (arith, new.page_is, also.page_is, new.block_is, also.block_is))
 
-    one : (s u g k x : ℕ) → IsNew t page n block s g x → m u k ≡ Some x → (s ≡ u) × (g ≡ k)
-    one s u g k x new old =
-        let own = p.own u k new.behind new.below (subst (λ y. m u k ≡ Some y) new.block_is old) in
+    one : (s u g k x : ℕ) → IsNew t page n block s g x → m u k ≡ Some x → keeps u ≡ true → (s ≡ u) × (g ≡ k)
+    one s u g k x new old keep =
+        let own = p.own u k new.behind new.below (subst (λ y. m u k ≡ Some y) new.block_is old) keep in
         (new.file ∙ sym own.0, new.page_is ∙ sym own.1)
 
     new_in : (s g x : ℕ) → IsNew t page n block s g x → (t == s && nat_le block x && nat_lt x (block + n)) ≡ true

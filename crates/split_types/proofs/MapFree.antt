@@ -1,5 +1,5 @@
 -- Free blocks: none of them is in the map of a file that is there, or whose drop isn't committed.
-use Rattle.std.proofs.Common.{◌≡◌, ℕ, ◌+◌, ◌-◌, ◌<◌, ◌≤◌, List, [], ◌∷◌, Bool, true, false, not, ◌&&◌, ◌||◌, None, arith, sym, inl, inr, ◌∙◌, ap}
+use Rattle.std.proofs.Common.{◌≡◌, ℕ, ◌+◌, ◌-◌, ◌<◌, ◌≤◌, List, [], ◌∷◌, Bool, true, false, not, ◌&&◌, ◌||◌, arith, sym, inl, inr, ◌∙◌}
 use Rattle.std.specs.List.{list_any, range_with_len}
 use Rattle.std.proofs.lemmas.Bool.{and_parts, and_from, or_parts, or_cases, both_ways, not-true}
 use Rattle.std.proofs.lemmas.Bool.Decides.{nat_tests}
@@ -7,8 +7,9 @@ use Rattle.split_types.specs.declared.workload.Workload.{Workload}
 use Rattle.split_types.specs.declared.event.Event.{Event}
 use Rattle.split_types.specs.Workloads.{first_block}
 use Rattle.split_types.specs.Files.{is_live}
-use Rattle.split_types.specs.FileMaps.{is_in_map, serials, is_dropped, seal_after_drop, is_settled, is_going, is_taken, is_waiting, free_blocks}
+use Rattle.split_types.specs.FileMaps.{is_in_map, serials, is_going, is_taken, is_waiting, free_blocks}
 use Rattle.split_types.specs.FilesInOrder.{all_files}
+use Rattle.split_types.specs.MapsInOrder.{keeps_blocks}
 use Rattle.split_types.specs.Sets.{has}
 use Rattle.split_types.proofs.Sets.{has-filter, has-range}
 
@@ -47,22 +48,16 @@ any_at p (x ∷ xs) s there passes = grind (arith, nat_tests, any_at p xs s)
 has_serial : (w : Workload) (h : List Event) (s : ℕ) → s < all_files w h → has (serials w h) s ≡ true
 has_serial w h s below = has-range 0 (all_files w h) s ∙ (grind (arith, nat_tests))
 
--- where no drop is committed, a block in the map of a file that is there, or was dropped, isn't free
-pub not_free : (w : Workload) (h : List Event) (s x : ℕ) → s < all_files w h
-    → (is_live w h s || is_dropped h s) ≡ true → seal_after_drop h s ≡ None → is_in_map w h s x ≡ true → IsFree w h x
-    → ⊥
-not_free w h s x below kept unsealed within free = elim (or_cases (is_live w h s) (is_dropped h s) kept) [
+-- a block in the map of a file that is there, or whose drop isn't committed, isn't free
+pub not_free : (w : Workload) (h : List Event) (s x : ℕ) → s < all_files w h → keeps_blocks w h s ≡ true
+    → is_in_map w h s x ≡ true → IsFree w h x → ⊥
+not_free w h s x below keeps within free = elim (or_cases (is_live w h s) (is_going h s) keeps) [
   | inl live ↦
       both_ways (is_taken w h x) free.untaken
       (any_at (λ t. is_live w h t && is_in_map w h t x) (serials w h) s (has_serial w h s below)
       (and_from (is_live w h s) (is_in_map w h s x) live within))
-  | inr dropped ↦
+  | inr going ↦
       both_ways (is_waiting w h x) free.settled
       (any_at (λ t. is_going h t && is_in_map w h t x) (serials w h) s (has_serial w h s below)
-      (and_from (is_going h s) (is_in_map w h s x) (going dropped) within))
+      (and_from (is_going h s) (is_in_map w h s x) going within))
 ]
-  where
-    going : is_dropped h s ≡ true → is_going h s ≡ true
-    going dropped =
-        and_from (is_dropped h s) (not (is_settled h (seal_after_drop h s))) dropped
-        (ap (λ o. not (is_settled h o)) unsealed)

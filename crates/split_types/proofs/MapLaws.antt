@@ -1,5 +1,5 @@
 -- The maps of files are in order in every legal history of an accepted workload, and so is the run that is served.
-use Rattle.std.proofs.Common.{◌≡◌, ℕ, ◌+◌, ◌-◌, ◌/◌, ◌<◌, ◌≤◌, List, [], length, max, nat_lt, Bool, true, false, Some, None, refl, arith, subst, ap, if◌then◌else◌}
+use Rattle.std.proofs.Common.{◌≡◌, ℕ, ◌+◌, ◌-◌, ◌/◌, ◌<◌, ◌≤◌, List, [], length, max, nat_lt, Bool, true, false, Some, None, refl, arith, subst, ap, ◌∙◌, if◌then◌else◌}
 use Rattle.std.proofs.lemmas.Bool.Decides.{nat_tests}
 use Rattle.std.proofs.lemmas.Option.{same_Some}
 use Rattle.split_types.specs.declared.ids.Pid.{Pid}
@@ -8,7 +8,7 @@ use Rattle.split_types.specs.declared.call.Call.TheVariants.{Write}
 use Rattle.split_types.specs.declared.request.Run.{Run}
 use Rattle.split_types.specs.declared.workload.Workload.{Workload}
 use Rattle.split_types.specs.declared.event.Event.{Event}
-use Rattle.split_types.specs.History.{◌▹◌}
+use Rattle.split_types.specs.History.{◌▹◌, adds}
 use Rattle.split_types.specs.Hooks.{maker}
 use Rattle.split_types.specs.Calls.{moved}
 use Rattle.split_types.specs.Files.{is_live, bound_file}
@@ -22,16 +22,17 @@ use Rattle.split_types.specs.Serving.{service_state, bytes_up_to, map_of}
 use Rattle.split_types.specs.Accepted.{IsAccepted}
 use Rattle.split_types.specs.Legal.{IsLegal}
 use Rattle.split_types.specs.MapsInOrder.{IsPlaced, AreMaps, IsServed, MapsAreInOrder}
-use Rattle.split_types.specs.Proving.Came.{Came, IsAtPiece}
+use Rattle.split_types.specs.Proving.Came.{Came, IsAtPiece, journal_request}
 use Rattle.split_types.specs.Proving.Came.Came.{came_enter, came_admit, came_changed, came_exists, came_no_slot, came_make, came_drop, came_no_file, came_too_big}
 use Rattle.split_types.specs.Proving.Came.Came.{came_wrote, came_read, came_fault, came_no_space, came_put, came_get, came_zeros, came_evict, came_load}
-use Rattle.split_types.specs.Proving.Came.Came.{came_serve, came_skip, came_map, came_grow, came_add, came_send, came_done}
+use Rattle.split_types.specs.Proving.Came.Came.{came_flushed, came_synced, came_serve, came_skip, came_map, came_grow, came_add, came_seal, came_journal, came_send, came_done}
 use Rattle.split_types.proofs.CameLaws.{came}
 use Rattle.split_types.proofs.FileLaws.{live_of}
+use Rattle.split_types.proofs.JournalAdds.{of_journal}
 use Rattle.split_types.proofs.MapBlocks.{IsPlacing, map_stays}
 use Rattle.split_types.proofs.MapRuns.{free_is}
-use Rattle.split_types.proofs.MapState.{ServesOf, MapsOf}
-use Rattle.split_types.proofs.MapSteps.{step_make, step_drop, step_put, step_load, step_done, step_serve, step_skip, step_add}
+use Rattle.split_types.proofs.MapState.{ServesOf, MapsOf, keeps_of, keeps_is}
+use Rattle.split_types.proofs.MapSteps.{step_make, step_drop, step_put, step_load, step_done, step_serve, step_skip, step_add, step_journal}
 use Rattle.split_types.proofs.MapPlacing.{serves_next, placing_new, placing_old, step_map}
 use Rattle.split_types.proofs.MapStart.{maps_start}
 
@@ -66,7 +67,7 @@ record Goes (w : Workload) (h : List Event) (e : Event) : Type 0 where
 -- through a map of pages without blocks
 goes_new : (w : Workload) (h : List Event) (run : Run) (free : FreeRun) → MapsOf w h → ServesOf w h run
     → is_live w h run.serial.0 ≡ true
-    → IsPlacing w (λ s g. mapped_block w h s g) run.serial.0 run.page free.n free.first
+    → IsPlacing w (λ s g. mapped_block w h s g) (keeps_of w h) run.serial.0 run.page free.n free.first
     → 1 ≤ free.n → free.n ≤ run.n → Goes w h (map_of (service_state w h run) free.n free.first true)
 goes_new w h run free f serves live placing some most = record {
   maps = step_map w h (slot_of w h run.serial) run free.n free.first true
@@ -74,18 +75,21 @@ goes_new w h run free f serves live placing some most = record {
       some most;
   stays =
       λ s g x at.
-      map_stays w (λ s g. mapped_block w h s g) run.serial.0 run.page free.n free.first s g x placing at;
+      map_stays w (λ s g. mapped_block w h s g) (keeps_of w h) run.serial.0 run.page free.n free.first s g x placing at;
 }
 
 -- through a map of pages that have blocks
 goes_old : (w : Workload) (h : List Event) (run : Run) (block : ℕ) → MapsOf w h → ServesOf w h run
-    → is_live w h run.serial.0 ≡ true → IsPlacing w (λ s g. mapped_block w h s g) run.serial.0 run.page run.n block
+    → is_live w h run.serial.0 ≡ true
+    → IsPlacing w (λ s g. mapped_block w h s g) (keeps_of w h) run.serial.0 run.page run.n block
     → Goes w h (map_of (service_state w h run) run.n block false)
 goes_old w h run block f serves live placing = record {
   maps = step_map w h (slot_of w h run.serial) run run.n block false
       (max (disk_size_of w h run.serial.0) (bytes_up_to (service_state w h run) run.n)) f serves live placing
       serves.some (omega arith);
-  stays = λ s g x at. map_stays w (λ s g. mapped_block w h s g) run.serial.0 run.page run.n block s g x placing at;
+  stays =
+      λ s g x at.
+      map_stays w (λ s g. mapped_block w h s g) (keeps_of w h) run.serial.0 run.page run.n block s g x placing at;
 }
 
 -- through any event that comes next
@@ -125,6 +129,8 @@ goes w h e f (came_load p c serial piece here absent block at) = record {
   maps = step_load w h p serial piece.page block f;
   stays = λ s g x at. at;
 }
+goes w h e f (came_flushed p name serial working idle written) = record { maps = f; stays = λ s g x at. at }
+goes w h e f (came_synced p name serial working acted safe) = record { maps = f; stays = λ s g x at. at }
 goes w h e f (came_serve run idle found) = record {
   maps = step_serve w h run f (serves_next w h run f found);
   stays = λ s g x at. at;
@@ -136,9 +142,14 @@ goes w h e f (came_map run free serves live none found) =
     goes_new w h run free f serving live (placing_new w h run free f serving none found) (is.some serving.some) is.most
 goes w h e f (came_grow run block serves live first short) =
     let serving = f.served run (ap served_run serves) in
-    goes_old w h run block f serving live (placing_old w h run block f serving first)
+    goes_old w h run block f serving live (placing_old w h run block f serving live first)
 goes w h e f (came_add run block served live first long) = record {
   maps = step_add w h run block f;
+  stays = λ s g x at. at;
+}
+goes w h e f (came_seal may) = record { maps = f; stays = λ s g x at. at }
+goes w h e f (came_journal kind first n j) = record {
+  maps = step_journal w h (journal_request (adds h) kind first n) (of_journal w h (adds h) kind first n j) f;
   stays = λ s g x at. at;
 }
 goes w h e f (came_send r free picked) = record { maps = f; stays = λ s g x at. at }
@@ -162,7 +173,8 @@ placed w h f s g x at = record {
 are_maps : (w : Workload) (h : List Event) → MapsOf w h → AreMaps w h
 are_maps w h f = record {
   placed = placed w h f;
-  apart = λ s t g k x at there keeps also. f.blocks.apart s t g k x at there;
+  apart = λ s t g k x at there keeps also.
+      f.blocks.apart s t g k x at there (keeps_is w h s ∙ keeps) (keeps_is w h t ∙ also);
   in_map = f.blocks.in_map;
   of_map = f.blocks.of_map;
   put = f.put;

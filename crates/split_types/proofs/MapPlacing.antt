@@ -23,7 +23,7 @@ use Rattle.split_types.specs.Sets.{has}
 use Rattle.split_types.proofs.MapBlocks.{IsPlacing, map_cases, map_here, blocks_map}
 use Rattle.split_types.proofs.MapRuns.{while_passes, while_some, while_most, free_is, apart_none, apart_some, apart_both, apart_self, least_passes}
 use Rattle.split_types.proofs.MapFree.{is_free, not_free}
-use Rattle.split_types.proofs.MapState.{ServesOf, MapsOf, ready_put}
+use Rattle.split_types.proofs.MapState.{ServesOf, MapsOf, keeps_of, keeps_is, live_keeps, ready_put}
 
 -- ---- serves
 -- the run from a page that is ready
@@ -89,21 +89,21 @@ serves_next w h run f found = by_first (first_ready w h) refl found
 -- free blocks for pages without blocks
 pub placing_new : (w : Workload) (h : List Event) (run : Run) (free : FreeRun) → MapsOf w h → ServesOf w h run
     → mapped_block w h run.serial.0 run.page ≡ None → free_run w h run.n ≡ Some free
-    → IsPlacing w (λ s g. mapped_block w h s g) run.serial.0 run.page free.n free.first
+    → IsPlacing w (λ s g. mapped_block w h s g) (keeps_of w h) run.serial.0 run.page free.n free.first
 placing_new w h run free f serves none found =
     let is = free_is (free_blocks w h) run.n free found in
     record {
       within = omega (arith, serves.within, is.most);
       from = λ k below. (is_free w h (free.first + k) (is.each k below)).from;
       to = λ k below. (is_free w h (free.first + k) (is.each k below)).to;
-      own = λ s g k below at. absurd (taken s g (free.first + k) at (is.each k below));
+      own = λ s g k below at keeps. absurd (taken s g (free.first + k) at keeps (is.each k below));
       same = λ k x below at. absurd (mapped k x (omega (arith, below, is.most)) at);
     }
   where
-    taken : (s g x : ℕ) → mapped_block w h s g ≡ Some x → has (free_blocks w h) x ≡ true → ⊥
-    taken s g x at free =
-        let kept = f.kept s g x at in
-        not_free w h s x (f.numbered s kept) kept (f.unsealed s) (f.blocks.in_map s g x at) (is_free w h x free)
+    taken : (s g x : ℕ) → mapped_block w h s g ≡ Some x → keeps_of w h s ≡ true → has (free_blocks w h) x ≡ true → ⊥
+    taken s g x at keeps free =
+        not_free w h s x (f.numbered s (f.kept s g x at)) (sym (keeps_is w h s) ∙ keeps) (f.blocks.in_map s g x at)
+        (is_free w h x free)
 
     mapped : (k x : ℕ) → k < run.n → mapped_block w h run.serial.0 (run.page + k) ≡ Some x → ⊥
     mapped k x below at =
@@ -116,13 +116,15 @@ placing_new w h run free f serves none found =
 
 -- the blocks that the pages have
 pub placing_old : (w : Workload) (h : List Event) (run : Run) (block : ℕ) → MapsOf w h → ServesOf w h run
-    → mapped_block w h run.serial.0 run.page ≡ Some block
-    → IsPlacing w (λ s g. mapped_block w h s g) run.serial.0 run.page run.n block
-placing_old w h run block f serves first = record {
+    → is_live w h run.serial.0 ≡ true → mapped_block w h run.serial.0 run.page ≡ Some block
+    → IsPlacing w (λ s g. mapped_block w h s g) (keeps_of w h) run.serial.0 run.page run.n block
+placing_old w h run block f serves live first = record {
   within = serves.within;
   from = λ k below. f.blocks.from run.serial.0 (run.page + k) (block + k) (there k below);
   to = λ k below. f.blocks.to run.serial.0 (run.page + k) (block + k) (there k below);
-  own = λ s g k below at. f.blocks.apart s run.serial.0 g (run.page + k) (block + k) at (there k below);
+  own = λ s g k below at keeps.
+      f.blocks.apart s run.serial.0 g (run.page + k) (block + k) at (there k below) keeps
+      (live_keeps w h run.serial.0 live);
   same = λ k x below at. same_Some x (block + k) (sym at ∙ there k below);
 }
   where
@@ -134,11 +136,11 @@ placing_old w h run block f serves first = record {
 -- through a map of the first pages of the run that is served
 pub step_map : (w : Workload) (h : List Event) (slot : Slot) (run : Run) (n block : ℕ) (new : Bool) (size : ℕ)
     → MapsOf w h → ServesOf w h run → is_live w h run.serial.0 ≡ true
-    → IsPlacing w (λ s g. mapped_block w h s g) run.serial.0 run.page n block → 1 ≤ n → n ≤ run.n
+    → IsPlacing w (λ s g. mapped_block w h s g) (keeps_of w h) run.serial.0 run.page n block → 1 ≤ n → n ≤ run.n
     → MapsOf w (h ▹ Map slot run.serial run.page n block new size)
 step_map w h slot run n block new size f serves live placing some most = record {
-  blocks = blocks_map w (λ s g. mapped_block w h s g) (λ s x. is_in_map w h s x) run.serial.0 run.page n block
-      f.blocks placing;
+  blocks = blocks_map w (λ s g. mapped_block w h s g) (λ s x. is_in_map w h s x) (keeps_of w h) run.serial.0 run.page n
+      block f.blocks placing;
   kept = λ s g x at. elim (map_cases (λ s g. mapped_block w h s g) run.serial.0 run.page n block s g x at) [
     | inl here ↦
         subst (λ t. (is_live w h t || is_dropped h t) ≡ true) (sym here.file)
@@ -146,7 +148,6 @@ step_map w h slot run n block new size f serves live placing some most = record 
     | inr old ↦ f.kept s g x old
   ];
   numbered = f.numbered;
-  unsealed = f.unsealed;
   put = f.put;
   served =
       λ next at. subst (ServesOf w (h ▹ Map slot run.serial run.page n block new size)) (same_Some left next at) now;

@@ -12,7 +12,7 @@ use Rattle.split_types.specs.Accepted.{IsAccepted}
 use Rattle.split_types.proofs.Lists.{all_at}
 use Rattle.split_types.proofs.PageLaws.{page_index_within, page_index-apart}
 use Rattle.split_types.proofs.MapBlocks.{AreBlocks}
-use Rattle.split_types.proofs.MapState.{MapsOf}
+use Rattle.split_types.proofs.MapState.{keeps_of, MapsOf}
 
 -- a page that has a block is one of a preset file, and that is its place
 record IsAtStart (w : Workload) (s g x : ℕ) : Type 0 where
@@ -40,14 +40,15 @@ at_start w s g x accepted at = by_test (nat_lt g (pages_in w s)) refl at
         record { file = file.0; page = within; most = file.1; block = sym (same_Some (page_block w s g) x same) }
     by_test false is same = absurd (cc)
 
-blocks_start : (w : Workload) → IsAccepted w → AreBlocks w (λ s g. mapped_block w [] s g) (λ s x. is_in_map w [] s x)
+blocks_start : (w : Workload) → IsAccepted w
+    → AreBlocks w (λ s g. mapped_block w [] s g) (λ s x. is_in_map w [] s x) (keeps_of w [])
 blocks_start w accepted = record {
   page = λ s g x at. (let is = at_start w s g x accepted at in omega (arith, is.page, is.most));
   from = λ s g x at. (let is = at_start w s g x accepted at in omega (arith, is.block));
   to = λ s g x at.
       (let is = at_start w s g x accepted at in
       omega (arith, is.block, page_index_within w s g is.file is.page, accepted.workload.presets.fit));
-  apart = λ s t g k x at there.
+  apart = λ s t g k x at there keeps also.
       (let one = at_start w s g x accepted at in
       let other = at_start w t k x accepted there in
       page_index-apart w (record { 0 = s }) g (record { 0 = t }) k one.file one.page other.file other.page
@@ -80,7 +81,6 @@ maps_start w accepted = record {
   blocks = blocks_start w accepted;
   kept = λ s g x at. kept s (at_start w s g x accepted at).file;
   numbered = λ s is. numbered s is;
-  unsealed = λ s. refl;
   put = λ s g is. absurd (cc);
   served = λ run at. absurd (cc);
   mapped = λ run at. absurd (cc);

@@ -1,6 +1,6 @@
 -- The maps of files and the run that is served, through each kind of event but a map.
-use Rattle.std.proofs.Common.{◌≡◌, ℕ, ◌+◌, ◌==◌, ◌<◌, List, [], ◌∷◌, length, Bool, true, false, not, ◌&&◌, ◌||◌, refl, arith, subst, inl, inr, ◌∙◌, ap}
-use Rattle.std.proofs.lemmas.Bool.{cases_Bool, and_parts, or_cases, or_left, or_right, eqb-true}
+use Rattle.std.proofs.Common.{◌≡◌, ℕ, ◌+◌, ◌==◌, ◌<◌, List, [], ◌∷◌, length, Bool, true, false, not, ◌&&◌, ◌||◌, Option, Some, None, refl, arith, subst, sym, inl, inr, ◌∙◌, ap}
+use Rattle.std.proofs.lemmas.Bool.{cases_Bool, and_parts, and_from, or_cases, or_left, or_right, both_ways, eqb-true, ne_eqb, not-true, not_from_false, false_from_ne_true}
 use Rattle.std.proofs.lemmas.Bool.Decides.{nat_tests}
 use Rattle.std.proofs.lemmas.List.Folds.{list_any-append}
 use Rattle.std.proofs.lemmas.Option.{same_Some}
@@ -8,8 +8,10 @@ use Rattle.split_types.specs.declared.ids.Pid.{Pid}
 use Rattle.split_types.specs.declared.ids.ReqId.{ReqId}
 use Rattle.split_types.specs.declared.ids.Serial.{Serial}
 use Rattle.split_types.specs.declared.ids.Slot.{Slot}
+use Rattle.split_types.specs.declared.ids.Txn.{Txn}
 use Rattle.split_types.specs.declared.buf.Buf.TheVariants.{Page}
-use Rattle.split_types.specs.declared.actor.Actor.TheVariants.{Client, Wb}
+use Rattle.split_types.specs.declared.actor.Actor.TheVariants.{Client, Wb, Cm}
+use Rattle.split_types.specs.declared.request.Request.{Request}
 use Rattle.split_types.specs.declared.request.Run.{Run}
 use Rattle.split_types.specs.declared.workload.Workload.{Workload}
 use Rattle.split_types.specs.declared.event.Event.{Event}
@@ -17,15 +19,20 @@ use Rattle.split_types.specs.declared.event.Event.TheVariants.{Make, Put, Drop, 
 use Rattle.split_types.specs.History.{◌▹◌, adds}
 use Rattle.split_types.specs.Hooks.{covers, same_buf}
 use Rattle.split_types.specs.Requests.{is_numbered, unfinished}
+use Rattle.split_types.specs.Reads.{request_numbered}
+use Rattle.split_types.specs.Rounds.{next_txn}
+use Rattle.split_types.specs.Writeback.{service, served_run}
 use Rattle.split_types.specs.Files.{is_live}
 use Rattle.split_types.specs.Pages.{is_put_since, is_ready}
-use Rattle.split_types.specs.FileMaps.{mapped_block, is_dropped, makes}
+use Rattle.split_types.specs.FileMaps.{mapped_block, is_in_map, is_dropped, drop_txn, commits, is_committed, makes}
 use Rattle.split_types.specs.FileSlots.{next_serial}
 use Rattle.split_types.specs.Serving.{request_for}
 use Rattle.split_types.specs.FilesInOrder.{all_files}
 use Rattle.split_types.specs.Proving.Came.{read_request}
 use Rattle.split_types.proofs.Lists.{none_in_filter}
-use Rattle.split_types.proofs.MapState.{Serves, ServesOf, MapsOf, ready_stays, ready_put, serves_stay}
+use Rattle.split_types.proofs.JournalAdds.{IsOfJournal}
+use Rattle.split_types.proofs.MapBlocks.{blocks_keep}
+use Rattle.split_types.proofs.MapState.{Serves, ServesOf, settles, keeps_of, MapsOf, ready_stays, ready_put, serves_stay}
 
 -- the run that is served, where the same pages are ready and the same files are there
 served_still : (w : Workload) (h later : List Event) (run : Run)
@@ -46,17 +53,27 @@ was_kept : (new live dropped : Bool) → new ≡ false → ((new || live) || dro
 was_kept true live dropped out is = absurd (cc)
 was_kept false live dropped out is = is
 
+-- a file with blocks that keeps them after a make isn't the new one
+pub make_keeps : (w : Workload) (h : List Event) (by : Pid) (slot : Slot) (s g x : ℕ) → MapsOf w h
+    → mapped_block w h s g ≡ Some x → keeps_of w (h ▹ Make by slot (next_serial w h)) s ≡ true
+    → keeps_of w h s ≡ true
+make_keeps w h by slot s g x f at =
+    was_kept (length w.files + makes h == s) (is_live w h s)
+    (is_dropped h s && not (settles (λ t. is_committed h t) (drop_txn h s)))
+    (ne_eqb (length w.files + makes h) s
+    (λ (e : length w.files + makes h ≡ s). omega (arith, f.numbered s (f.kept s g x at), e)))
+
 -- a make gives a file a number that none had
 pub step_make : (w : Workload) (h : List Event) (by : Pid) (slot : Slot) → MapsOf w h
     → MapsOf w (h ▹ Make by slot (next_serial w h))
 step_make w h by slot f = record {
-  blocks = f.blocks;
+  blocks = blocks_keep w (λ s g. mapped_block w h s g) (λ s x. is_in_map w h s x) (keeps_of w h)
+      (keeps_of w (h ▹ Make by slot (next_serial w h))) f.blocks (λ s g x at. make_keeps w h by slot s g x f at);
   kept = λ s g x at. kept_make (count == s) (is_live w h s) (is_dropped h s) (f.kept s g x at);
   numbered = λ s is. elim (cases_Bool (count == s)) [
     | inl new ↦ (let same : count ≡ s = eqb-true count s new in omega (arith, same))
     | inr old ↦ omega (arith, f.numbered s (was_kept (count == s) (is_live w h s) (is_dropped h s) old is))
   ];
-  unsealed = f.unsealed;
   put = λ s g is. (let was = f.put s g is in (omega (arith, was.0), was.1));
   served = λ run at. serves_stay (all_files w h) (all_files w (h ▹ Make by slot (next_serial w h)))
       (λ s g. mapped_block w h s g) (λ s. is_live w h s) (λ s. is_live w (h ▹ Make by slot (next_serial w h)) s)
@@ -86,11 +103,28 @@ was_dropped : (here live dropped : Bool) → here ≡ false → ((not here && li
 was_dropped true live dropped out is = absurd (cc)
 was_dropped false live dropped out is = is
 
+-- a file that keeps its blocks after a drop did so before: it is another one, or the one that was there
+drop_other : (here : Bool) (live dropped : Bool) (t u : Option Txn) (committed : Txn → Bool)
+    → (here ≡ true → live ≡ true)
+    → ((not here && live) || ((here || dropped) && not (settles committed (elim here [ true ↦ t | false ↦ u ]))))
+    ≡ true
+    → (live || (dropped && not (settles committed u))) ≡ true
+drop_other true live dropped t u committed there is = or_left live (dropped && not (settles committed u)) (there refl)
+drop_other false live dropped t u committed there is = is
+
+pub drop_keeps : (w : Workload) (h : List Event) (by : Pid) (slot : Slot) (serial : Serial) (s : ℕ)
+    → is_live w h serial.0 ≡ true → keeps_of w (h ▹ Drop by slot serial) s ≡ true → keeps_of w h s ≡ true
+drop_keeps w h by slot serial s there =
+    drop_other (serial.0 == s) (is_live w h s) (is_dropped h s) (Some (next_txn h)) (drop_txn h s)
+    (λ t. is_committed h t)
+    (λ same. subst (λ n. is_live w h n ≡ true) (eqb-true serial.0 s same) there)
+
 -- a drop is one of a file that is there
 pub step_drop : (w : Workload) (h : List Event) (by : Pid) (slot : Slot) (serial : Serial) → MapsOf w h
     → is_live w h serial.0 ≡ true → MapsOf w (h ▹ Drop by slot serial)
 step_drop w h by slot serial f there = record {
-  blocks = f.blocks;
+  blocks = blocks_keep w (λ s g. mapped_block w h s g) (λ s x. is_in_map w h s x) (keeps_of w h)
+      (keeps_of w (h ▹ Drop by slot serial)) f.blocks (λ s g x at. drop_keeps w h by slot serial s there);
   kept = λ s g x at. kept_drop (serial.0 == s) (is_live w h s) (is_dropped h s) (f.kept s g x at);
   numbered = λ s is. elim (cases_Bool (serial.0 == s)) [
     | inl here ↦
@@ -98,7 +132,6 @@ step_drop w h by slot serial f there = record {
         omega (arith, same, f.numbered serial.0 (or_left (is_live w h serial.0) (is_dropped h serial.0) there)))
     | inr other ↦ f.numbered s (was_dropped (serial.0 == s) (is_live w h s) (is_dropped h s) other is)
   ];
-  unsealed = f.unsealed;
   put = f.put;
   served = λ run at. serves_stay (all_files w h) (all_files w h)
       (λ s g. mapped_block w h s g) (λ s. is_live w h s) (λ s. is_live w (h ▹ Drop by slot serial) s)
@@ -118,7 +151,6 @@ step_put w h by t page from to fill f there below = record {
   blocks = f.blocks;
   kept = f.kept;
   numbered = f.numbered;
-  unsealed = f.unsealed;
   put = λ s g is. elim (or_cases (s.0 == t.0 && g == page) (is_put_since h (Page s g)) is) [
     | inl here ↦
         (let same : (s.0 ≡ t.0) × (g ≡ page) = grind (arith, nat_tests) in
@@ -144,7 +176,6 @@ step_load w h by t page block f = record {
   blocks = f.blocks;
   kept = f.kept;
   numbered = f.numbered;
-  unsealed = f.unsealed;
   put = f.put;
   served = λ run at. served_still w h (h ▹ Add (Client by) (read_request (adds h) by t page block)) run
       (f.served run at) (λ g ready. still (run.serial) g ready);
@@ -160,13 +191,31 @@ step_load w h by t page block f = record {
         (read_request (adds h) by t page block ∷ [])
         ∙ ap (λ b. b || false) idle)
 
+-- it may commit a transaction, so that files no longer keep their blocks
+done_other : (live dropped : Bool) (t : Option Txn) (committed was : Txn → Bool)
+    → ((u : Txn) → was u ≡ true → committed u ≡ true) → (live || (dropped && not (settles committed t))) ≡ true
+    → (live || (dropped && not (settles was t))) ≡ true
+done_other true dropped t committed was more is = refl
+done_other false false t committed was more is = absurd (cc)
+done_other false true None committed was more is = refl
+done_other false true (Some u) committed was more is =
+    not_from_false (was u)
+    (false_from_ne_true (was u) (λ before. both_ways (committed u) (not-true (committed u) is) (more u before)))
+
+pub done_keeps : (w : Workload) (h : List Event) (k : ℕ) (id : ReqId) (s : ℕ)
+    → keeps_of w (h ▹ Done k id true) s ≡ true → keeps_of w h s ≡ true
+done_keeps w h k id s =
+    done_other (is_live w h s) (is_dropped h s) (drop_txn h s) (λ t. is_committed (h ▹ Done k id true) t)
+    (λ t. is_committed h t)
+    (λ t was. or_right (commits t (request_numbered h id)) (is_committed h t) was)
+
 -- a request that is done
 pub step_done : (w : Workload) (h : List Event) (k : ℕ) (id : ReqId) → MapsOf w h → MapsOf w (h ▹ Done k id true)
 step_done w h k id f = record {
-  blocks = f.blocks;
+  blocks = blocks_keep w (λ s g. mapped_block w h s g) (λ s x. is_in_map w h s x) (keeps_of w h)
+      (keeps_of w (h ▹ Done k id true)) f.blocks (λ s g x at. done_keeps w h k id s);
   kept = f.kept;
   numbered = f.numbered;
-  unsealed = f.unsealed;
   put = f.put;
   served = λ run at. served_still w h (h ▹ Done k id true) run (f.served run at)
       (λ g ready. still (run.serial) g ready);
@@ -187,7 +236,6 @@ step_serve w h run f serves = record {
   blocks = f.blocks;
   kept = f.kept;
   numbered = f.numbered;
-  unsealed = f.unsealed;
   put = f.put;
   served = λ next at. subst (ServesOf w h) (same_Some run next at) serves;
   mapped = λ next at. absurd (cc);
@@ -199,7 +247,6 @@ step_skip w h f = record {
   blocks = f.blocks;
   kept = f.kept;
   numbered = f.numbered;
-  unsealed = f.unsealed;
   put = f.put;
   served = λ run at. absurd (cc);
   mapped = λ run at. absurd (cc);
@@ -212,9 +259,31 @@ step_add w h run block f = record {
   blocks = f.blocks;
   kept = f.kept;
   numbered = f.numbered;
-  unsealed = f.unsealed;
   put = λ s g is. f.put s g
       (and_parts (not (covers (request_for (adds h) run block) (Page s g))) (is_put_since h (Page s g)) is).1;
   served = λ next at. absurd (cc);
   mapped = λ next at. absurd (cc);
 }
+
+-- ---- the commit thread
+-- a request of the journal takes no page
+pub step_journal : (w : Workload) (h : List Event) (r : Request) → IsOfJournal r → MapsOf w h
+    → MapsOf w (h ▹ Add Cm r)
+step_journal w h r j f = record {
+  blocks = f.blocks;
+  kept = f.kept;
+  numbered = f.numbered;
+  put = λ s g is. f.put s g (and_parts (not (covers r (Page s g))) (is_put_since h (Page s g)) is).1;
+  served = λ run at. served_still w h (h ▹ Add Cm r) run
+      (f.served run (subst (λ s. served_run s ≡ Some run) (j.service_stays (service h)) at))
+      (λ g ready. still (run.serial) g ready);
+  mapped = λ run at. f.mapped run (sym (j.service_stays (service h)) ∙ at);
+}
+  where
+    still : (s : Serial) (g : ℕ) → is_ready w h (Page s g) ≡ true → is_ready w (h ▹ Add Cm r) (Page s g) ≡ true
+    still s g ready =
+        ready_stays w h (h ▹ Add Cm r) s g ready (ready_put w h s g ready).0
+        (λ put. and_from (not (covers r (Page s g))) (is_put_since h (Page s g))
+        (ap not (j.covers_none (Page s g))) put)
+        (λ idle. list_any-append (λ q. covers q (Page s g)) (unfinished h) (r ∷ [])
+        ∙ ap (λ b. b || (covers r (Page s g) || false)) idle ∙ ap (λ b. b || false) (j.covers_none (Page s g)))

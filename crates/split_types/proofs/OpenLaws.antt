@@ -7,7 +7,7 @@ use Rattle.split_types.specs.declared.buf.Buf.TheVariants.{Page}
 use Rattle.split_types.specs.declared.workload.Workload.{Workload}
 use Rattle.split_types.specs.declared.event.Event.{Event}
 use Rattle.split_types.specs.declared.event.Event.TheVariants.{Put}
-use Rattle.split_types.specs.History.{◌▹◌}
+use Rattle.split_types.specs.History.{◌▹◌, adds}
 use Rattle.split_types.specs.Hooks.{maker, same_buf, is_among}
 use Rattle.split_types.specs.OpenDirtyings.{open_at}
 use Rattle.split_types.specs.Files.{is_live}
@@ -20,8 +20,9 @@ use Rattle.split_types.specs.LegalHistories.{DirtyAreOpen}
 use Rattle.split_types.specs.Proving.Came.{Came}
 use Rattle.split_types.specs.Proving.Came.Came.{came_enter, came_admit, came_changed, came_exists, came_no_slot, came_make, came_drop, came_no_file, came_too_big}
 use Rattle.split_types.specs.Proving.Came.Came.{came_wrote, came_read, came_fault, came_no_space, came_get, came_zeros, came_evict, came_load}
-use Rattle.split_types.specs.Proving.Came.Came.{came_serve, came_skip, came_map, came_grow, came_add, came_send, came_done}
+use Rattle.split_types.specs.Proving.Came.Came.{came_flushed, came_synced, came_seal, came_journal, came_serve, came_skip, came_map, came_grow, came_add, came_send, came_done}
 use Rattle.split_types.proofs.CameLaws.{came}
+use Rattle.split_types.proofs.JournalAdds.{of_journal}
 use Rattle.split_types.proofs.KnownLaws.{maps_known}
 use Rattle.split_types.proofs.PutLaws.{put_in}
 
@@ -106,6 +107,11 @@ open_next w h e s g accepted maps (came_serve run idle found) is = is
 open_next w h e s g accepted maps (came_skip run at gone) is = is
 open_next w h e s g accepted maps (came_map run free serves there none at) is = is
 open_next w h e s g accepted maps (came_grow run block serves there at short) is = is
+open_next w h e s g accepted maps (came_flushed q name t working idle down) is = is
+open_next w h e s g accepted maps (came_synced q name t working acted safe) is = is
+open_next w h e s g accepted maps (came_seal may) is = is
+open_next w h e s g accepted maps (came_journal kind first n j) is =
+    rw ((of_journal w h (adds h) kind first n j).covers_none (Page s g)) is
 open_next w h e s g accepted maps (came_send r free picked) is = is
 open_next w h e s g accepted maps (came_done k r at) is = is
 

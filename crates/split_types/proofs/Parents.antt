@@ -68,7 +68,7 @@ open_page h s g n j o =
 slot_of : ℕ → Buf
 slot_of slot = Inode (record { 0 = slot })
 
-metadata_any : (test : Buf → Bool) → list_any test metadata_buffers ≡ true → (b : Buf) × IsMetadata b × (test b ≡ true)
+pub metadata_any : (test : Buf → Bool) → list_any test metadata_buffers ≡ true → (b : Buf) × IsMetadata b × (test b ≡ true)
 unfolding metadata_buffers slot_of
 metadata_any test any =
     elim (or_cases (test Bitmap) (list_any test (map Dir (range_with_len 0 4) ++ map slot_of (range_with_len 0 256)))
@@ -82,7 +82,7 @@ metadata_any test any =
           ]
     ]
 
-any_metadata : (test : Buf → Bool) (b : Buf) → IsMetadata b → test b ≡ true → list_any test metadata_buffers ≡ true
+pub any_metadata : (test : Buf → Bool) (b : Buf) → IsMetadata b → test b ≡ true → list_any test metadata_buffers ≡ true
 unfolding metadata_buffers slot_of
 any_metadata test (Page s g) is passes = absurd is
 any_metadata test Bitmap is passes =

@@ -29,9 +29,10 @@ use Rattle.split_types.specs.Legal.{IsLegal}
 use Rattle.split_types.specs.Proving.Came.{Came, IsAtPiece}
 use Rattle.split_types.specs.Proving.Came.Came.{came_enter, came_admit, came_changed, came_exists, came_no_slot, came_make, came_drop, came_no_file, came_too_big}
 use Rattle.split_types.specs.Proving.Came.Came.{came_wrote, came_read, came_fault, came_no_space, came_put, came_get, came_zeros, came_evict, came_load}
-use Rattle.split_types.specs.Proving.Came.Came.{came_serve, came_skip, came_map, came_grow, came_add, came_send, came_done}
+use Rattle.split_types.specs.Proving.Came.Came.{came_flushed, came_synced, came_seal, came_journal, came_serve, came_skip, came_map, came_grow, came_add, came_send, came_done}
 use Rattle.split_types.specs.Proving.Known.{Known}
 use Rattle.split_types.proofs.CameLaws.{came}
+use Rattle.split_types.proofs.JournalAdds.{of_journal}
 use Rattle.split_types.proofs.KnownLaws.{known}
 use Rattle.split_types.proofs.Lists.{slice_get-push, filter_there, list_any_here}
 use Rattle.split_types.proofs.WaitingLaws.{number_here}
@@ -369,6 +370,16 @@ pins_next w h e f same old (came_grow run block serves there at short) =
 pins_next w h e f same old (came_add run block at there placed long) =
     pins_add w h _ _ f same old refl (works_add w h _ _)
     (λ p b reader does. absurd (cc))
+pins_next w h e f same old (came_flushed q name s working idle down) =
+    pins_stay w h (h ▹ e) (λ id. refl) refl (λ id. refl) (λ b. refl)
+    (λ p b works. works_stay w h (h ▹ e) p b refl works) old
+pins_next w h e f same old (came_synced q name s working acted safe) = pins_ret w h q _ old
+pins_next w h e f same old (came_seal may) =
+    pins_stay w h (h ▹ e) (λ id. refl) refl (λ id. refl) (λ b. refl)
+    (λ p b works. works_stay w h (h ▹ e) p b refl works) old
+pins_next w h e f same old (came_journal kind first n j) =
+    pins_add w h _ _ f same old refl (works_add w h _ _)
+    (λ p b reader does. absurd (let none = (of_journal w h (adds h) kind first n j).reads_none b in cc))
 pins_next w h e f same old (came_send r free picked) =
     pins_stay w h (h ▹ e) (λ id. refl) refl (λ id. refl) (λ b. refl) (works_send w h r.id _) old
 pins_next w h e f same old (came_done k r at) = pins_done w h k r f same old at

@@ -28,6 +28,7 @@ use Rattle.split_types.proofs.PutLaws.{put_in_legal}
 use Rattle.split_types.proofs.HeldLaws.{same_buf-is, reads_some}
 use Rattle.split_types.proofs.NumberLaws.{numbers}
 use Rattle.split_types.proofs.CacheLaws.{read_moved}
+use Rattle.split_types.proofs.JournalAdds.{reads_moves}
 use Rattle.split_types.proofs.CacheKept.{victim_free}
 
 -- the buffer is a page that a file may have, of one that is or was there
@@ -64,8 +65,9 @@ loaded_file : (w : Workload) (h : List Event) (k : ℕ) (id : ReqId) (b : Buf) �
 loaded_file w h k id b accepted legal (came_done j r at) is =
     let all = known w h accepted legal
     in let added = all.waiting.flight_of j r at
-    in page_read w h r b (all.runs r.id.0 r added)
-    (subst (λ o. reads_some o b ≡ true) ((numbers w h accepted legal).at_number r.id r added) is)
+    in let does : reads r b ≡ true =
+    subst (λ o. reads_some o b ≡ true) ((numbers w h accepted legal).at_number r.id r added) is
+    in page_read w h r b (all.runs r.id.0 r added (reads_moves r b does)) does
 
 pub placed_file : (w : Workload) (h : List Event) (b : Buf) → IsAccepted w → IsLegal w h → is_placed h b ≡ true
     → IsFilePage w h b

@@ -1,5 +1,5 @@
 -- In every legal history of an accepted workload, no more pages without blocks are dirty than blocks are free.
-use Rattle.std.proofs.Common.{◌≡◌, ℕ, ◌+◌, ◌-◌, ◌==◌, ◌<◌, ◌≤◌, List, [], length, max, nat_lt, nat_le, Bool, true, false, not, ◌&&◌, ◌||◌, Option, Some, None, is_none, refl, arith, sym, subst, inl, inr, ap, if◌then◌else◌}
+use Rattle.std.proofs.Common.{◌≡◌, ℕ, ◌+◌, ◌-◌, ◌==◌, ◌<◌, ◌≤◌, List, [], length, max, nat_lt, nat_le, Bool, true, false, not, ◌&&◌, ◌||◌, Option, Some, None, is_none, refl, arith, sym, subst, inl, inr, ap, ◌∙◌, if◌then◌else◌}
 use Rattle.std.proofs.lemmas.Bool.{cases_Bool, eqb-true}
 use Rattle.std.proofs.lemmas.Bool.Decides.{nat_tests}
 use Rattle.split_types.specs.declared.ids.Serial.{Serial}
@@ -10,7 +10,7 @@ use Rattle.split_types.specs.declared.event.Event.{Event}
 use Rattle.split_types.specs.declared.event.Event.TheVariants.{Put}
 use Rattle.split_types.specs.History.{◌▹◌, adds}
 use Rattle.split_types.specs.Hooks.{maker, covers}
-use Rattle.split_types.specs.Files.{is_live}
+use Rattle.split_types.specs.Files.{is_live, bound_file}
 use Rattle.split_types.specs.Pages.{is_put_since, is_dirty}
 use Rattle.split_types.specs.FileSizes.{disk_size_of}
 use Rattle.split_types.specs.FileMaps.{mapped_block, is_in_map, makes, free_blocks, has_no_block, is_reserved, reserved_pages}
@@ -20,15 +20,17 @@ use Rattle.split_types.specs.Writeback.{served_run}
 use Rattle.split_types.specs.Serving.{service_state, bytes_up_to, map_of, request_for}
 use Rattle.split_types.specs.Accepted.{IsAccepted}
 use Rattle.split_types.specs.Legal.{IsLegal}
-use Rattle.split_types.specs.Proving.Came.{Came}
+use Rattle.split_types.specs.Proving.Came.{Came, journal_request}
 use Rattle.split_types.specs.Proving.Came.Came.{came_enter, came_admit, came_changed, came_exists, came_no_slot, came_make, came_drop, came_no_file, came_too_big}
 use Rattle.split_types.specs.Proving.Came.Came.{came_wrote, came_read, came_fault, came_no_space, came_put, came_get, came_zeros, came_evict, came_load}
-use Rattle.split_types.specs.Proving.Came.Came.{came_serve, came_skip, came_map, came_grow, came_add, came_send, came_done}
+use Rattle.split_types.specs.Proving.Came.Came.{came_flushed, came_synced, came_serve, came_skip, came_map, came_grow, came_add, came_seal, came_journal, came_send, came_done}
 use Rattle.split_types.proofs.CameLaws.{came}
+use Rattle.split_types.proofs.FileLaws.{live_of}
 use Rattle.split_types.proofs.MapRuns.{IsFreeRun, free_is, apart_some}
-use Rattle.split_types.proofs.MapState.{ServesOf, MapsOf}
+use Rattle.split_types.proofs.MapState.{ServesOf, MapsOf, keeps_of}
+use Rattle.split_types.proofs.MapSteps.{make_keeps, drop_keeps, done_keeps}
 use Rattle.split_types.proofs.MapLaws.{maps_of}
-use Rattle.split_types.proofs.PromiseFree.{free_stays, free_falls}
+use Rattle.split_types.proofs.PromiseFree.{free_grows, free_falls}
 use Rattle.split_types.proofs.PromisePages.{reserved_fewer, reserved_put, reserved_mapped}
 
 -- no more pages have a free block promised than blocks are free
@@ -36,13 +38,28 @@ abbrev IsPromised : Workload → List Event → Type 0
 IsPromised w h = length (reserved_pages w h) ≤ length (free_blocks w h)
 
 -- ---- what an event may change
--- maps have the blocks that they had, and a page has a block promised only if it had one promised
-keeps : (w : Workload) (h : List Event) (e : Event) → MapsOf w h → MapsOf w (h ▹ e)
+-- maps have the blocks that they had, the files that keep them did so before, and a page has a block promised only if
+-- it had one promised
+drops : (w : Workload) (h : List Event) (e : Event) → MapsOf w h
+    → ((s x : ℕ) → is_in_map w (h ▹ e) s x ≡ is_in_map w h s x)
+    → ((s g x : ℕ) → mapped_block w h s g ≡ Some x → keeps_of w (h ▹ e) s ≡ true → keeps_of w h s ≡ true)
+    → ((s : Serial) (g : ℕ) → is_reserved w (h ▹ e) (Page s g) ≡ true → is_reserved w h (Page s g) ≡ true)
+    → IsPromised w h → IsPromised w (h ▹ e)
+drops w h e f same keep fewer was =
+    omega (arith, was, reserved_fewer w h e fewer, free_grows w h (h ▹ e) f before)
+  where
+    before : (s x : ℕ) → (keeps_of w (h ▹ e) s ≡ true) × (is_in_map w (h ▹ e) s x ≡ true)
+        → (keeps_of w h s ≡ true) × (is_in_map w h s x ≡ true)
+    before s x own =
+        let within : is_in_map w h s x ≡ true = sym (same s x) ∙ own.1 in
+        let at = f.blocks.of_map s x within in (keep s at.0 x at.1 own.0, within)
+
+-- the same files keep them
+keeps : (w : Workload) (h : List Event) (e : Event) → MapsOf w h → ((s : ℕ) → keeps_of w (h ▹ e) s ≡ keeps_of w h s)
     → ((s x : ℕ) → is_in_map w (h ▹ e) s x ≡ is_in_map w h s x)
     → ((s : Serial) (g : ℕ) → is_reserved w (h ▹ e) (Page s g) ≡ true → is_reserved w h (Page s g) ≡ true)
     → IsPromised w h → IsPromised w (h ▹ e)
-keeps w h e f after same fewer was =
-    omega (arith, was, reserved_fewer w h e fewer, ap length (free_stays w h (h ▹ e) f after same))
+keeps w h e f keep same fewer was = drops w h e f same (λ s g x at own. sym (keep s) ∙ own) fewer was
 
 -- a page was put, where it was put or is one of a new file; it is one of an old file
 make_bits : (new live put none : Bool) → (put ≡ true → new ≡ false) → (((new || live) && put) && none) ≡ true
@@ -108,7 +125,7 @@ grows : (w : Workload) (h : List Event) (run : Run) (block : ℕ) → MapsOf w h
     → mapped_block w h run.serial.0 run.page ≡ Some block → IsPromised w h
     → IsPromised w (h ▹ map_of (service_state w h run) run.n block false)
 grows w h run block f after serves first was =
-    keeps w h (map_of (service_state w h run) run.n block false) f after
+    keeps w h (map_of (service_state w h run) run.n block false) f (λ s. refl)
     (λ s x. grow_same w h run block s x f serves first)
     (λ s g is. grow_bits (is_dirty w h (Page s g))
     (run.serial.0 == s.0 && nat_le run.page g && nat_lt g (run.page + run.n)) (block + (g - run.page))
@@ -125,8 +142,8 @@ places w h run free f after serves live none is was =
       arith,
       was,
       reserved_mapped w h (slot_of w h run.serial) run free.n free.first true size serves live none is.most,
-      free_falls w h (slot_of w h run.serial) run.serial run.page free.n free.first size f after (is.some serves.some)
-          is.each,
+      free_falls w h (slot_of w h run.serial) run.serial run.page free.n free.first size live f after
+          (is.some serves.some) is.each,
     )
   where
     size : ℕ
@@ -139,60 +156,72 @@ same_page w h s g is = is
 
 goes : (w : Workload) (h : List Event) (e : Event) → MapsOf w h → MapsOf w (h ▹ e) → IsPromised w h → Came w h e
     → IsPromised w (h ▹ e)
-goes w h e f after was (came_enter p c has out) = keeps w h e f after (λ s x. refl) (same_page w h) was
-goes w h e f after was (came_admit p c has in_call out may) = keeps w h e f after (λ s x. refl) (same_page w h) was
+goes w h e f after was (came_enter p c has out) = keeps w h e f (λ s. refl) (λ s x. refl) (same_page w h) was
+goes w h e f after was (came_admit p c has in_call out may) =
+    keeps w h e f (λ s. refl) (λ s x. refl) (same_page w h) was
 goes w h e f after was (came_changed p c admitted names acted) =
-    keeps w h e f after (λ s x. refl) (same_page w h) was
+    keeps w h e f (λ s. refl) (λ s x. refl) (same_page w h) was
 goes w h e f after was (came_exists p name admitted idle taken) =
-    keeps w h e f after (λ s x. refl) (same_page w h) was
+    keeps w h e f (λ s. refl) (λ s x. refl) (same_page w h) was
 goes w h e f after was (came_no_slot p name admitted idle unused full) =
-    keeps w h e f after (λ s x. refl) (same_page w h) was
+    keeps w h e f (λ s. refl) (λ s x. refl) (same_page w h) was
 goes w h e f after was (came_make p name slot admitted idle unused free) =
-    keeps w h e f after (λ s x. refl)
+    drops w h e f (λ s x. refl) (λ s g x at. make_keeps w h p (record { 0 = slot }) s g x f at)
     (λ s g is. make_bits (length w.files + makes h == s.0) (is_live w h s.0) (is_put_since h (Page s g))
     (has_no_block w h (Page s g)) (λ put. old_page w h s g f put) is) was
 goes w h e f after was (came_drop p name serial working idle) =
-    keeps w h e f after (λ s x. refl)
+    drops w h e f (λ s x. refl)
+    (λ s g x at. drop_keeps w h p (slot_of w h serial) serial s (live_of w h (bound_file w h p.0) serial working.file))
     (λ s g is. drop_bits (serial.0 == s.0) (is_live w h s.0) (is_put_since h (Page s g))
     (has_no_block w h (Page s g)) is) was
-goes w h e f after was (came_no_file p c admitted none) = keeps w h e f after (λ s x. refl) (same_page w h) was
+goes w h e f after was (came_no_file p c admitted none) = keeps w h e f (λ s. refl) (λ s x. refl) (same_page w h) was
 goes w h e f after was (came_too_big p name off len fill serial working big) =
-    keeps w h e f after (λ s x. refl) (same_page w h) was
+    keeps w h e f (λ s. refl) (λ s x. refl) (same_page w h) was
 goes w h e f after was (came_wrote p name off len fill serial working left) =
-    keeps w h e f after (λ s x. refl) (same_page w h) was
+    keeps w h e f (λ s. refl) (λ s x. refl) (same_page w h) was
 goes w h e f after was (came_read p name off len serial working left) =
-    keeps w h e f after (λ s x. refl) (same_page w h) was
+    keeps w h e f (λ s. refl) (λ s x. refl) (same_page w h) was
 goes w h e f after was (came_fault p c serial piece working left bad) =
-    keeps w h e f after (λ s x. refl) (same_page w h) was
+    keeps w h e f (λ s. refl) (λ s x. refl) (same_page w h) was
 goes w h e f after was (came_no_space p name off len fill serial piece here out none) =
-    keeps w h e f after (λ s x. refl) (same_page w h) was
+    keeps w h e f (λ s. refl) (λ s x. refl) (same_page w h) was
 goes w h e f after was (came_put p name off len fill serial piece here may) =
     omega (
       arith,
       reserved_put w h p serial piece.page piece.from piece.to fill may.space was,
-      ap length (free_stays w h (h ▹ Put p serial piece.page piece.from piece.to fill) f after (λ s x. refl)),
+      free_grows w h (h ▹ Put p serial piece.page piece.from piece.to fill) f (λ s x own. own),
     )
 goes w h e f after was (came_get p name off len serial piece here held) =
-    keeps w h e f after (λ s x. refl) (same_page w h) was
+    keeps w h e f (λ s. refl) (λ s x. refl) (same_page w h) was
 goes w h e f after was (came_zeros p name off len serial piece here absent none) =
-    keeps w h e f after (λ s x. refl) (same_page w h) was
+    keeps w h e f (λ s. refl) (λ s x. refl) (same_page w h) was
 goes w h e f after was (came_evict p c serial piece here absent s g found) =
-    keeps w h e f after (λ t x. refl) (same_page w h) was
+    keeps w h e f (λ s. refl) (λ t x. refl) (same_page w h) was
 goes w h e f after was (came_load p c serial piece here absent block at) =
-    keeps w h e f after (λ s x. refl) (same_page w h) was
-goes w h e f after was (came_serve run idle found) = keeps w h e f after (λ s x. refl) (same_page w h) was
-goes w h e f after was (came_skip run served gone) = keeps w h e f after (λ s x. refl) (same_page w h) was
+    keeps w h e f (λ s. refl) (λ s x. refl) (same_page w h) was
+goes w h e f after was (came_flushed p name serial working idle written) =
+    keeps w h e f (λ s. refl) (λ s x. refl) (same_page w h) was
+goes w h e f after was (came_synced p name serial working acted safe) =
+    keeps w h e f (λ s. refl) (λ s x. refl) (same_page w h) was
+goes w h e f after was (came_serve run idle found) = keeps w h e f (λ s. refl) (λ s x. refl) (same_page w h) was
+goes w h e f after was (came_skip run served gone) = keeps w h e f (λ s. refl) (λ s x. refl) (same_page w h) was
 goes w h e f after was (came_map run free serves live none found) =
     places w h run free f after (f.served run (ap served_run serves)) live none
     (free_is (free_blocks w h) run.n free found) was
 goes w h e f after was (came_grow run block serves live first short) =
     grows w h run block f after (f.served run (ap served_run serves)) first was
 goes w h e f after was (came_add run block served live first long) =
-    keeps w h e f after (λ s x. refl)
+    keeps w h e f (λ s. refl) (λ s x. refl)
     (λ s g is. add_bits (is_live w h s.0) (covers (request_for (adds h) run block) (Page s g))
     (is_put_since h (Page s g)) (has_no_block w h (Page s g)) is) was
-goes w h e f after was (came_send r free picked) = keeps w h e f after (λ s x. refl) (same_page w h) was
-goes w h e f after was (came_done k r there) = keeps w h e f after (λ s x. refl) (same_page w h) was
+goes w h e f after was (came_seal may) = keeps w h e f (λ s. refl) (λ s x. refl) (same_page w h) was
+goes w h e f after was (came_journal kind first n j) =
+    keeps w h e f (λ s. refl) (λ s x. refl)
+    (λ s g is. add_bits (is_live w h s.0) (covers (journal_request (adds h) kind first n) (Page s g))
+    (is_put_since h (Page s g)) (has_no_block w h (Page s g)) is) was
+goes w h e f after was (came_send r free picked) = keeps w h e f (λ s. refl) (λ s x. refl) (same_page w h) was
+goes w h e f after was (came_done k r there) =
+    drops w h e f (λ s x. refl) (λ s g x at. done_keeps w h k r.id s) (same_page w h) was
 
 -- ---- what is proved
 pub promised : (w : Workload) (h : List Event) → IsAccepted w → IsLegal w h

@@ -21,7 +21,7 @@ use Rattle.split_types.specs.Legal.{IsLegal}
 use Rattle.split_types.specs.Proving.Came.{Came, IsAtPiece}
 use Rattle.split_types.specs.Proving.Came.Came.{came_enter, came_admit, came_changed, came_exists, came_no_slot, came_make, came_drop, came_no_file, came_too_big}
 use Rattle.split_types.specs.Proving.Came.Came.{came_wrote, came_read, came_fault, came_no_space, came_put, came_get, came_zeros, came_evict, came_load}
-use Rattle.split_types.specs.Proving.Came.Came.{came_serve, came_skip, came_map, came_grow, came_add, came_send, came_done}
+use Rattle.split_types.specs.Proving.Came.Came.{came_flushed, came_synced, came_seal, came_journal, came_serve, came_skip, came_map, came_grow, came_add, came_send, came_done}
 use Rattle.split_types.specs.Proving.Pieces.{IsFirstLeft, PutIn}
 use Rattle.split_types.proofs.AcceptedLaws.{call_is, moves_most, procs_most}
 use Rattle.split_types.proofs.CameLaws.{came}
@@ -75,7 +75,7 @@ pub put_in : (w : Workload) (h : List Event) (by : Pid) (s : Serial) (g from to 
     → Came w h (Put by s g from to fill) → PutIn w h by s g from to fill
 put_in w h by s g from to fill accepted (came_put p name off len byte t piece here may) =
     let has = here.working.admitted.has
-    in let taken = call_is w accepted p.0 (returned h p.0) (Write name off len byte) has.call
+    in let asked = call_is w accepted p.0 (returned h p.0) (Write name off len byte) has.call
     in let first = piece_is w h p (Write name off len byte) piece has.call here.left
     in let bytes = piece_bytes (Write name off len byte) (size_at_admit w h p.0) (moved h p.0) piece first
     in record {
@@ -86,7 +86,7 @@ put_in w h by s g from to fill accepted (came_put p name off len byte t piece he
       page = omega (arith, here.fits, bytes.page, first.some);
       some = omega (arith, bytes.from, bytes.to, first.some);
       to_most = omega (arith, bytes.to);
-      fill_most = taken.asked.1;
+      fill_most = asked.1;
     }
 
 pub put_in_legal : (w : Workload) (h : List Event) (by : Pid) (s : Serial) (g from to fill : ℕ) → IsAccepted w
@@ -137,6 +137,10 @@ moved_next w h e p accepted (came_skip run at gone) most = most
 moved_next w h e p accepted (came_map run free serves there none at) most = most
 moved_next w h e p accepted (came_grow run block serves there at short) most = most
 moved_next w h e p accepted (came_add run block at there placed known) most = most
+moved_next w h e p accepted (came_flushed q name s working idle down) most = most
+moved_next w h e p accepted (came_synced q name s working acted safe) most = most
+moved_next w h e p accepted (came_seal may) most = most
+moved_next w h e p accepted (came_journal kind first n j) most = most
 moved_next w h e p accepted (came_send r free picked) most = most
 moved_next w h e p accepted (came_done k r at) most = most
 

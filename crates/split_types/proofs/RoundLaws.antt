@@ -145,7 +145,7 @@ passes_new test h t k is = record {
   passes = ap (test t) (older-before h (Seal t k)) ∙ is;
 }
 
-abbrev any_of : (Txn → List Event → Bool) → List Sealing → Bool
+abbrev pub any_of : (Txn → List Event → Bool) → List Sealing → Bool
 any_of test round = list_any (λ s. test s.txn s.before) round
 
 any_passes : (test : Txn → List Event → Bool) (h : List Event) → any_of test (open_round h) ≡ true → Passes test h

@@ -14,10 +14,11 @@ pub use Rattle.split_types.proofs.PageLaws.{page_at, length-pages_of, file_withi
 pub use Rattle.split_types.proofs.CameLaws.{by_row, by_some, came, maker_is}
 pub use Rattle.split_types.proofs.WaitingLaws.{number_here, none_numbered, same_number, queue_one, flight_one, nothing_left}
 pub use Rattle.split_types.proofs.ReadyLaws.{ReadyParts, ready_parts, ready_from}
-pub use Rattle.split_types.proofs.KnownLaws.{RequestOf, request_of, queued_of, flight_of, picked_there, moves_served, moves_load, run_within, seek_most, known_next, maps_known, known}
+pub use Rattle.split_types.proofs.KnownLaws.{RequestOf, request_of, queued_of, flight_of, moves_served, moves_load, run_within, has_run, ends_within, longest, seek_most, maps_known, known}
+pub use Rattle.split_types.proofs.RequestLaws.{picked_there, known_requests}
 pub use Rattle.split_types.proofs.FileLaws.{live_of, files_are_in_order}
 pub use Rattle.split_types.proofs.MapRuns.{IsFreeRun, free_is, least_there, least_passes}
-pub use Rattle.split_types.proofs.PickLaws.{picks_first}
+pub use Rattle.split_types.proofs.PickLaws.{eligible, picks_first}
 pub use Rattle.split_types.proofs.PutLaws.{bound_of, piece_is, PieceBytes, piece_bytes, put_in, put_in_legal, moved_most}
 pub use Rattle.split_types.proofs.FreeLaws.{frees}
 pub use Rattle.split_types.proofs.OpenLaws.{dirty_are_open}
@@ -46,7 +47,10 @@ pub use Rattle.split_types.proofs.PinLaws.{WorksOn, works_one, Pins, none_loads}
 pub use Rattle.split_types.proofs.PinLaws.{pins, pins_one}
 pub use Rattle.split_types.proofs.VictimExists.{IsQuiet, quiet, not_crowded, HasVictim, victim_there}
 pub use Rattle.split_types.proofs.CoverLaws.{MovesIn, IsCovered, among_parts, covered, writes_covered}
-pub use Rattle.split_types.proofs.CoverLaws.{carried_covered, IsWritten, written, same_page, writes_other}
+pub use Rattle.split_types.proofs.CoverLaws.{carried_covered, IsWritten, write_tests, moved, written, block_from, same_page, writes_other}
+pub use Rattle.split_types.proofs.JournalAdds.{reads_moves, covers_moves}
+pub use Rattle.split_types.proofs.JournalStepsAdds.{journal_known}
+pub use Rattle.split_types.proofs.PromiseJournal.{commits_in_order, seals_in_order}
 pub use Rattle.split_types.proofs.WriteLaws.{adding_new, adding_old, add_number, adding_kept, adding_there}
 pub use Rattle.split_types.proofs.WriteLaws.{before_legal, left_run, writes_apart, IsDone, is_done, writes_stay_apart}
 pub use Rattle.split_types.proofs.CacheLaws.{count_without, any_without, live_here, live_after, live_changes}

@@ -29,7 +29,7 @@ use Rattle.split_types.specs.Legal.{IsLegal}
 use Rattle.split_types.specs.Proving.Came.{Came, IsAtPiece}
 use Rattle.split_types.specs.Proving.Came.Came.{came_enter, came_admit, came_changed, came_exists, came_no_slot, came_make, came_drop, came_no_file, came_too_big}
 use Rattle.split_types.specs.Proving.Came.Came.{came_wrote, came_read, came_fault, came_no_space, came_put, came_get, came_zeros, came_evict, came_load}
-use Rattle.split_types.specs.Proving.Came.Came.{came_serve, came_skip, came_map, came_grow, came_add, came_send, came_done}
+use Rattle.split_types.specs.Proving.Came.Came.{came_flushed, came_synced, came_seal, came_journal, came_serve, came_skip, came_map, came_grow, came_add, came_send, came_done}
 use Rattle.split_types.proofs.Lists.{all_at}
 use Rattle.split_types.proofs.CameLaws.{came}
 use Rattle.split_types.proofs.FileLaws.{live_of}
@@ -144,6 +144,10 @@ got_next w h e p accepted legal (came_skip run at gone) most = most
 got_next w h e p accepted legal (came_map run free serves there none at) most = most
 got_next w h e p accepted legal (came_grow run block serves there at short) most = most
 got_next w h e p accepted legal (came_add run block at there placed known) most = most
+got_next w h e p accepted legal (came_flushed q name s working idle down) most = most
+got_next w h e p accepted legal (came_synced q name s working acted safe) most = most
+got_next w h e p accepted legal (came_seal may) most = most
+got_next w h e p accepted legal (came_journal kind first n j) most = most
 got_next w h e p accepted legal (came_send r free picked) most = most
 got_next w h e p accepted legal (came_done k r at) most = most
 
@@ -211,6 +215,10 @@ disk_next w h e s (came_load p c t piece here absent block at) most = most
 disk_next w h e s (came_serve run idle found) most = most
 disk_next w h e s (came_skip run at gone) most = most
 disk_next w h e s (came_add run block at there placed known) most = most
+disk_next w h e s (came_flushed q name t working idle down) most = most
+disk_next w h e s (came_synced q name t working acted safe) most = most
+disk_next w h e s (came_seal may) most = most
+disk_next w h e s (came_journal kind first n j) most = most
 disk_next w h e s (came_send r free picked) most = most
 disk_next w h e s (came_done k r at) most = most
 

@@ -1,13 +1,14 @@
 -- Where no actor that is asked in turn has a next event, a legal history of an accepted workload is drained.
 use Rattle.std.proofs.Common.{◌≡◌, ℕ, zero, suc, ◌+◌, ◌==◌, ◌≤◌, List, [], ◌∷◌, ◌++◌, length, map, filter, slice_get, get_or, option_map, Bool, true, false, not, ◌&&◌, is_some, Option, Some, None, refl, arith, ap, subst, sym, ◌∙◌, nat_lt, nat_le, inl, inr, if◌then◌else◌}
 use Rattle.std.specs.Prelude.{is_none}
-use Rattle.std.specs.List.{range_with_len, list_any, list_all}
+use Rattle.std.specs.List.{range_with_len, list_any, list_all, flat_map}
 use Rattle.std.proofs.lemmas.Bool.{and_from, and_parts, and_right, or_left, eq-eqb, eqb-true, lt-ltb, not_from_false, not_from_true, false_from_ne_true, cases_lt, cond_both}
 use Rattle.std.proofs.lemmas.Bool.Decides.{nat_tests}
 use Rattle.std.proofs.lemmas.List.Folds.{list_any_none}
 use Rattle.std.proofs.lemmas.Option.{slice_get_within}
 use Rattle.split_types.specs.declared.ids.Pid.{Pid}
 use Rattle.split_types.specs.declared.ids.Serial.{Serial}
+use Rattle.split_types.specs.declared.ids.Txn.{Txn}
 use Rattle.split_types.specs.declared.buf.Buf.{Buf}
 use Rattle.split_types.specs.declared.buf.Buf.TheVariants.{Page}
 use Rattle.split_types.specs.declared.call.Call.{Call}
@@ -22,15 +23,15 @@ use Rattle.split_types.specs.declared.request.Service.{Service}
 use Rattle.split_types.specs.declared.request.Service.TheVariants.{Idle, Serving, Mapped}
 use Rattle.split_types.specs.declared.workload.Workload.{Workload}
 use Rattle.split_types.specs.declared.event.Event.{Event}
-use Rattle.split_types.specs.declared.event.Event.TheVariants.{Enter, Admit, Ret, Serve, Skip, Done, Evict}
+use Rattle.split_types.specs.declared.event.Event.TheVariants.{Enter, Admit, Flushed, Ret, Serve, Skip, Done, Evict}
 use Rattle.split_types.specs.Rows.{◌⇒◌∣◌}
 use Rattle.split_types.specs.History.{◌▹◌}
 use Rattle.split_types.specs.Hooks.{maker, same_buf}
 use Rattle.split_types.specs.Requests.{requests, queued, in_flight, unfinished}
 use Rattle.split_types.specs.Pages.{is_dirty, is_busy, is_ready}
 use Rattle.split_types.specs.Workloads.{processes, calls_of}
-use Rattle.split_types.specs.Calls.{returned, is_entered, is_admitted, has_acted, moved, call_of}
-use Rattle.split_types.specs.Files.{is_live, is_name_taken}
+use Rattle.split_types.specs.Calls.{returned, is_entered, is_admitted, has_acted, moved, call_of, is_finished}
+use Rattle.split_types.specs.Files.{is_live, is_name_taken, bound_file}
 use Rattle.split_types.specs.FileSizes.{working_file}
 use Rattle.split_types.specs.FileMaps.{mapped_block, free_blocks, has_no_block, is_reserved, reserved_pages, is_without_space, is_in_mapped_run}
 use Rattle.split_types.specs.LiveFiles.{free_slot}
@@ -42,17 +43,26 @@ use Rattle.split_types.specs.Victims.{victim}
 use Rattle.split_types.specs.Pieces.{Piece, is_whole, piece_left, got}
 use Rattle.split_types.specs.Schedulers.{admits, pick}
 use Rattle.split_types.specs.Accepted.{IsAccepted}
-use Rattle.split_types.specs.Clients.{PieceState, piece_state, state_left, client_state, most_bytes, put_of, get_of, load_of, evict_of, next_of_absent, next_of_put, next_of_get, next_of_write, next_on_file, next_of_bound, make_in, next_of_creat, next_of_unlink, next_of_admitted, next_of_call, next_of_client}
+use Rattle.split_types.specs.Clients.{PieceState, piece_state, state_left, client_state, most_bytes, put_of, get_of, load_of, evict_of, next_of_absent, next_of_put, next_of_get, next_of_fsync, next_of_write, next_on_file, next_of_bound, make_in, next_of_creat, next_of_unlink, next_of_admitted, next_of_call, next_of_client}
 use Rattle.split_types.specs.Writeback.{service, served_run}
 use Rattle.split_types.specs.Serving.{ServiceState, service_state, bytes_up_to, map_of, map_free, add_of, next_of_placed, next_of_serving, next_of_mapped, unless_dropped, next_serve, next_in_service}
 use Rattle.split_types.specs.Next.{send_of, next, next_of_dispatcher, next_of_completion}
-use Rattle.split_types.specs.Legal.{IsLegal, is_finished, first_next}
+use Rattle.split_types.specs.Legal.{IsLegal, first_next}
 use Rattle.split_types.specs.Draining.{NeverStuck}
 use Rattle.split_types.specs.MapsInOrder.{IsServed}
 use Rattle.split_types.specs.Proving.Came.{Came}
-use Rattle.split_types.specs.Proving.Came.Came.{came_changed, came_exists, came_no_slot, came_no_file, came_too_big, came_wrote, came_read, came_fault, came_no_space}
+use Rattle.split_types.specs.Proving.Came.Came.{came_changed, came_exists, came_no_slot, came_no_file, came_too_big, came_wrote, came_read, came_fault, came_no_space, came_synced}
 use Rattle.split_types.specs.Proving.Known.{Known}
-use Rattle.split_types.specs.Proving.Pieces.{IsTaken}
+use Rattle.split_types.specs.Proving.Waits.{WaitsEnd}
+use Rattle.split_types.specs.OpenDirtyings.{open_at}
+use Rattle.split_types.specs.DiskBytes.{adding}
+use Rattle.split_types.specs.Syncing.{admit_place, taken_puts, unwritten_puts, is_unwritten, is_written, awaited_txn, is_safe}
+use Rattle.split_types.specs.Transactions.{is_of_commit, marked_buffers, in_journal}
+use Rattle.split_types.proofs.PutLaws.{bound_of}
+use Rattle.split_types.proofs.OpenLaws.{dirty_are_open}
+use Rattle.split_types.proofs.WaitLaws.{some_picked, awaited_sealed}
+use Rattle.split_types.proofs.StuckJournal.{Rests, rests, all_committed}
+use Rattle.split_types.specs.IsWorkload.{IsAsked}
 use Rattle.split_types.proofs.AcceptedLaws.{call_is}
 use Rattle.split_types.proofs.CameLaws.{came}
 use Rattle.split_types.proofs.Lists.{some_at, any_in_filter}
@@ -60,7 +70,6 @@ use Rattle.split_types.proofs.HeldLaws.{same_buf-is, pages_are_known}
 use Rattle.split_types.proofs.MapRuns.{least_passes}
 use Rattle.split_types.proofs.WaitingLaws.{nothing_left}
 use Rattle.split_types.proofs.KnownLaws.{maps_known, known}
-use Rattle.split_types.proofs.PickLaws.{picks_first}
 use Rattle.split_types.proofs.VictimExists.{IsQuiet, HasVictim, quiet, not_crowded, victim_there}
 
 -- ---- who has no next event
@@ -106,6 +115,8 @@ record IsFree (w : Workload) (h : List Event) : Type 0 where
   out : (b : Buf) → is_in_mapped_run h b ≡ false
   calm : is_crowded w h ≡ false
   room : is_full w h ≡ true → HasVictim w h
+  down : (s : Serial) (at : ℕ) → is_written h (Some s) at ≡ true
+  safe : (p : ℕ) → is_safe h (awaited_txn w h p) ≡ true
 
 evict_left : (w : Workload) (h : List Event) (p : Pid) → HasVictim w h → evict_of p (victim w h) ≡ None → ⊥
 evict_left w h p v none =
@@ -269,8 +280,26 @@ unlink_left w h p name none = go (has_acted h p.0) none
     go true is = absurd (cc)
     go false is = bound_left w h p (Unlink name) (λ serial file none. drops serial none) is
 
+-- an fsync that is admitted, and whose file is there, has a next event
+fsync_left : (w : Workload) (h : List Event) (p : Pid) (serial : Serial) → IsFree w h
+    → working_file w h p.0 ≡ Some serial → next_of_fsync (client_state w h p) ≡ None → ⊥
+fsync_left w h p serial free file none =
+    go (has_acted h p.0) (is_written h (bound_file w h p.0) (admit_place h p.0)) (is_safe h (awaited_txn w h p.0))
+    (ap (λ o. is_written h o (admit_place h p.0)) (bound_of w h (bound_file w h p.0) serial file)
+    ∙ free.down serial (admit_place h p.0))
+    (free.safe p.0) none
+  where
+    go : (acted down safe : Bool) → down ≡ true → safe ≡ true
+        → ◌≡◌ {A = Option Event}
+        (not acted ⇒ (if down then Some (Flushed p) else None) ∣ (if safe then Some (Ret p reply.Done) else None)) None
+        → ⊥
+    go true down true flushed committed is = absurd (cc)
+    go true down false flushed committed is = absurd (cc)
+    go false true safe flushed committed is = absurd (cc)
+    go false false safe flushed committed is = absurd (cc)
+
 -- a call that is admitted has a next event
-admitted_left : (w : Workload) (h : List Event) (p : Pid) (c : Call) → IsTaken c → IsFree w h
+admitted_left : (w : Workload) (h : List Event) (p : Pid) (c : Call) → IsAsked c → IsFree w h
     → next_of_admitted (client_state w h p) c ≡ None → ⊥
 admitted_left w h p (Creat name) taken free none = creat_left w h p none
 admitted_left w h p (Write name off len fill) taken free none =
@@ -278,11 +307,12 @@ admitted_left w h p (Write name off len fill) taken free none =
     (λ serial file is. write_left w h p name off len fill serial free file is) none
 admitted_left w h p (Read name off len) taken free none =
     bound_left w h p (Read name off len) (λ serial file is. read_left w h p name off len serial free file is) none
-admitted_left w h p (Fsync name) taken free none = absurd (taken.built)
+admitted_left w h p (Fsync name) taken free none =
+    bound_left w h p (Fsync name) (λ serial file is. fsync_left w h p serial free file is) none
 admitted_left w h p (Unlink name) taken free none = unlink_left w h p name none
 
 -- a process with a call left has a next event
-call_left : (w : Workload) (h : List Event) (p : Pid) (c : Call) → IsAccepted w → IsTaken c → IsFree w h
+call_left : (w : Workload) (h : List Event) (p : Pid) (c : Call) → IsAccepted w → IsAsked c → IsFree w h
     → next_of_call (client_state w h p) c ≡ None → ⊥
 call_left w h p c accepted taken free none =
     go (is_entered h p.0) (is_admitted h p.0) (admits w h p.0) (admits_all w h p.0 accepted) none
@@ -317,6 +347,7 @@ returned_within w (h ▹ Ret q r) p legal =
     returning w h q r (came_no_file p c admitted none) = (c, admitted.has.call)
     returning w h q r (came_too_big p name off len fill s working big) =
         (Write name off len fill, working.admitted.has.call)
+    returning w h q r (came_synced p name s working acted safe) = (Fsync name, working.admitted.has.call)
     returning w h q r (came_wrote p name off len fill s working none) =
         (Write name off len fill, working.admitted.has.call)
     returning w h q r (came_read p name off len s working none) = (Read name off len, working.admitted.has.call)
@@ -529,11 +560,11 @@ none_flying h none = go (in_flight h) none
     go (r ∷ rs) none = absurd (cc)
 
 -- where nothing is in flight and the dispatcher has no next event, nothing is queued
-none_queued : (w : Workload) (h : List Event) → IsAccepted w → Known w h → in_flight h ≡ []
+none_queued : (w : Workload) (h : List Event) → IsAccepted w → WaitsEnd w h → in_flight h ≡ []
     → next_of_dispatcher w h ≡ None → queued h ≡ []
-none_queued w h accepted f empty none =
-    queue (queued h)
-    (sym (picks_first w h accepted f) ∙ go (not (nat_lt (length (in_flight h)) w.depth)) (pick w h) room none)
+none_queued w h accepted ends empty none =
+    queue (queued h) (λ some. unpicked (pick w h) (ends.picks empty some)
+    (go (not (nat_lt (length (in_flight h)) w.depth)) (pick w h) room none))
   where
     room : not (nat_lt (length (in_flight h)) w.depth) ≡ false
     room = rw empty (not_from_true (nat_lt 0 w.depth) (lt-ltb 0 w.depth accepted.workload.machine.depth_least))
@@ -544,9 +575,13 @@ none_queued w h accepted f empty none =
     go false None is none = refl
     go false (Some r) is none = absurd (cc)
 
-    queue : (q : List Request) → slice_get q 0 ≡ None → q ≡ []
+    unpicked : (o : Option Request) → is_some o ≡ true → o ≡ None → ⊥
+    unpicked None some none = absurd (cc)
+    unpicked (Some r) some none = absurd (cc)
+
+    queue : (q : List Request) → (1 ≤ length q → ⊥) → q ≡ []
     queue [] none = refl
-    queue (r ∷ q) none = absurd (cc)
+    queue (r ∷ q) none = absurd (none (omega arith))
 
 -- then no request is unfinished
 none_unfinished : (w : Workload) (h : List Event) → Known w h → queued h ≡ [] → in_flight h ≡ [] → unfinished h ≡ []
@@ -554,19 +589,61 @@ none_unfinished w h f queue flight =
     nothing_left (requests h) (unfinished h) (λ id. f.waiting.left_once id ∙ rw (queue, flight) refl)
 
 -- ---- all actors
--- where no page is loading, dirty or busy, and no service is under way, a client finds all that
-free_to_act : (w : Workload) (h : List Event) → IsAccepted w → IsLegal w h → service h ≡ Idle → IsQuiet w h
-    → IsFree w h
-free_to_act w h accepted legal idle q = record {
+-- where no page is dirty and no request is left, every put is on the disk
+all_down : (w : Workload) (h : List Event) → IsAccepted w → IsLegal w h → IsQuiet w h → unfinished h ≡ []
+    → (s : Serial) (at : ℕ) → is_written h (Some s) at ≡ true
+all_down w h accepted legal q none s at =
+    not_from_false (list_any (is_unwritten h s at) (known_pages h))
+    (list_any_none (is_unwritten h s at) (known_pages h) (λ k d below. none_here (get_or (known_pages h) k d)))
+  where
+    none_here : (b : Buf) → is_unwritten h s at b ≡ false
+    none_here (Page t g) =
+        let empty : open_at h (Page t g) ≡ [] =
+        nothing_open (open_at h (Page t g)) (sym (dirty_are_open w h t g accepted legal) ∙ q.dirty (Page t g))
+        in let places : unwritten_puts h (Page t g) ≡ [] =
+        ap (λ l. l ++ flat_map (λ r. taken_puts (Page t g) (adding h r.id)) (unfinished h)) empty
+        ∙ ap (λ l. flat_map (λ r. taken_puts (Page t g) (adding h r.id)) l) none
+        in ap (λ l. t.0 == s.0 && list_any (λ i. nat_lt i at) l) places ∙ and_right (t.0 == s.0) false refl
+      where
+        nothing_open : (places : List ℕ) → nat_lt 0 (length places) ≡ false → places ≡ []
+        nothing_open [] is = refl
+        nothing_open (i ∷ places) is = absurd (grind (arith, nat_tests))
+    none_here b = refl
+
+-- where nothing is marked and the commit thread rests, each transaction that an fsync awaits is committed
+all_safe : (w : Workload) (h : List Event) → IsAccepted w → IsLegal w h → WaitsEnd w h → Rests w h → unfinished h ≡ []
+    → (p : ℕ) → is_safe h (awaited_txn w h p) ≡ true
+all_safe w h accepted legal ends rest none p = go (awaited_txn w h p) refl
+  where
+    go : (o : Option Txn) → awaited_txn w h p ≡ o → is_safe h o ≡ true
+    go None at = refl
+    go (Some t) at =
+        let sealed = ends.awaited p t at rest.unmarked
+        in all_committed w h t accepted legal rest none (record { least = sealed.0; most = sealed.1 })
+
+-- where no page is loading, dirty or busy, no service is under way and the commit thread rests, a client finds all that
+free_to_act : (w : Workload) (h : List Event) → IsAccepted w → IsLegal w h → WaitsEnd w h → service h ≡ Idle
+    → IsQuiet w h → Rests w h → unfinished h ≡ [] → IsFree w h
+free_to_act w h accepted legal ends idle q rest none = record {
   loading = q.loading;
   out = λ b. rw idle refl;
   calm = not_crowded w h accepted q;
   room = victim_there w h accepted legal q;
+  down = all_down w h accepted legal q none;
+  safe = all_safe w h accepted legal ends rest none;
+}
+
+-- what is known of requests and of what fsyncs await
+waits_end : (w : Workload) (h : List Event) → IsAccepted w → IsLegal w h → WaitsEnd w h
+waits_end w h accepted legal = record {
+  picks = some_picked w h accepted legal;
+  awaited = λ p t is unmarked. awaited_sealed w h p t accepted legal is unmarked;
 }
 
 pub never_stuck : NeverStuck
 never_stuck w h accepted legal none =
     let f = known w h accepted legal
+    in let ends = waits_end w h accepted legal
     in let halves =
     none_parts w h (map (λ p. Client (record { 0 = p })) (processes w)) (Wb ∷ Cm ∷ Dq ∷ Dn 0 ∷ Tk ∷ []) none
     in let wb = none_first w h Wb (Cm ∷ Dq ∷ Dn 0 ∷ Tk ∷ []) halves.1
@@ -574,16 +651,21 @@ never_stuck w h accepted legal none =
     in let dq = none_first w h Dq (Dn 0 ∷ Tk ∷ []) cm.1
     in let dn = none_first w h (Dn 0) (Tk ∷ []) dq.1
     in let flight = none_flying h dn.0
-    in let queue = none_queued w h accepted f flight dq.0
+    in let queue = none_queued w h accepted ends flight dq.0
     in let idle = none_served w h accepted legal wb.0
-    in let q = quiet w h accepted legal (none_unfinished w h f queue flight) (none_ready w h idle wb.0)
-    in four (list_all (is_finished w h) (processes w)) (length (queued h) == 0) (length (in_flight h) == 0)
-    (not (list_any (is_dirty w h) (known_pages h)))
-    (all_finished w h 1 (length w.procs) accepted (free_to_act w h accepted legal idle q)
-    (λ p. returned_within w h p legal) (omega arith) (omega arith) halves.0)
-    (rw queue refl) (rw flight refl)
+    in let left = none_unfinished w h f queue flight
+    in let q = quiet w h accepted legal left (none_ready w h idle wb.0)
+    in let rest = rests w h legal (ap (λ l. length (filter is_of_commit l)) left) idle cm.0
+    in let finished =
+    all_finished w h 1 (length w.procs) accepted (free_to_act w h accepted legal ends idle q rest left)
+    (λ p. returned_within w h p legal) (omega arith) (omega arith) halves.0
+    in six (list_all (is_finished w h) (processes w)) (length (queued h) == 0) (length (in_flight h) == 0)
+    (not (list_any (is_dirty w h) (known_pages h))) (length (marked_buffers h) == 0) (length (in_journal h) == 0)
+    finished (rw queue refl) (rw flight refl)
     (not_from_false _
     (list_any_none (is_dirty w h) (known_pages h) (λ k d below. q.dirty (get_or (known_pages h) k d))))
+    (eq-eqb (length (marked_buffers h)) 0 rest.unmarked) (eq-eqb (length (in_journal h)) 0 (rest.stays finished))
   where
-    four : (a b c d : Bool) → a ≡ true → b ≡ true → c ≡ true → d ≡ true → (a && b && c && d) ≡ true
-    four a b c d p q r s = rw (p, q, r, s) refl
+    six : (a b c d e f : Bool) → a ≡ true → b ≡ true → c ≡ true → d ≡ true → e ≡ true → f ≡ true
+        → (a && b && c && d && e && f) ≡ true
+    six a b c d e f p q r s t u = rw (p, q, r, s, t, u) refl

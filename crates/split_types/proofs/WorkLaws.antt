@@ -9,7 +9,7 @@ use Rattle.split_types.specs.declared.call.Call.{Call}
 use Rattle.split_types.specs.declared.call.Call.TheVariants.{Creat, Write, Read, Fsync, Unlink}
 use Rattle.split_types.specs.declared.workload.Workload.{Workload}
 use Rattle.split_types.specs.declared.event.Event.{Event}
-use Rattle.split_types.specs.declared.event.Event.TheVariants.{Enter, Admit, Make, Put, Get, Drop, Ret}
+use Rattle.split_types.specs.declared.event.Event.TheVariants.{Enter, Admit, Make, Put, Get, Drop, Flushed, Ret}
 use Rattle.split_types.specs.History.{◌▹◌}
 use Rattle.split_types.specs.Workloads.{calls_of, span}
 use Rattle.split_types.specs.Calls.{returned, is_entered, is_admitted, has_acted, moved, call_of}
@@ -21,7 +21,7 @@ use Rattle.split_types.specs.Proving.Came.{Came, IsAdmitted, IsAtPiece}
 use Rattle.split_types.proofs.PutLaws.{piece_is, piece_bytes}
 use Rattle.split_types.specs.Proving.Came.Came.{came_enter, came_admit, came_changed, came_exists, came_no_slot, came_make, came_drop, came_no_file, came_too_big}
 use Rattle.split_types.specs.Proving.Came.Came.{came_wrote, came_read, came_fault, came_no_space, came_put, came_get, came_zeros, came_evict, came_load}
-use Rattle.split_types.specs.Proving.Came.Came.{came_serve, came_skip, came_map, came_grow, came_add, came_send, came_done}
+use Rattle.split_types.specs.Proving.Came.Came.{came_flushed, came_synced, came_seal, came_journal, came_serve, came_skip, came_map, came_grow, came_add, came_send, came_done}
 
 -- how many events process p made, but for those that made or dropped a file
 abbrev pub acts : List Event → ℕ → ℕ
@@ -33,11 +33,12 @@ acts (h ▹ Get by serial page from to sum) p = if by.0 == p then acts h p + 1 e
 acts (h ▹ Ret by r) p = if by.0 == p then acts h p + 1 else acts h p
 acts (h ▹ e) p = acts h p
 
--- how many files process p made or dropped
+-- how many files process p made or dropped, and how many of its calls were flushed
 abbrev pub changes : List Event → ℕ → ℕ
 changes [] p = 0
 changes (h ▹ Make by slot serial) p = if by.0 == p then changes h p + 1 else changes h p
 changes (h ▹ Drop by slot serial) p = if by.0 == p then changes h p + 1 else changes h p
+changes (h ▹ Flushed by) p = if by.0 == p then changes h p + 1 else changes h p
 changes (h ▹ e) p = changes h p
 
 -- how many pieces process p has put or got
@@ -283,6 +284,11 @@ work_kept w h e p (came_skip run at gone) k = k
 work_kept w h e p (came_map run free serves there none at) k = k
 work_kept w h e p (came_grow run block serves there at short) k = k
 work_kept w h e p (came_add run block is there placed known) k = k
+work_kept w h e p (came_flushed q name s working idle down) k = k
+work_kept w h e p (came_seal may) k = k
+work_kept w h e p (came_journal kind first n j) k = k
+work_kept w h e p (came_synced q name s working acted safe) k =
+    ret_kept w h q (Fsync name) p working.admitted k
 work_kept w h e p (came_send r few oldest) k = k
 work_kept w h e p (came_done j r at) k = k
 
@@ -310,7 +316,7 @@ changes_back m r en ac true k = record { counted = most ac k.counted; inside = �
     most true l = omega arith
     most false l = omega arith
 
--- process q makes or drops a file
+-- process q makes or drops a file, or its call is flushed
 changes_acted : (w : Workload) (h : List Event) (q : Pid) (c : Call) (p : ℕ) → IsAdmitted w h q c
     → has_acted h q.0 ≡ false → Changes h p
     → ChangesAt (if q.0 == p then changes h p + 1 else changes h p) (returned h p) (is_entered h p)
@@ -354,5 +360,10 @@ changes_kept w h e p (came_skip run at gone) k = k
 changes_kept w h e p (came_map run free serves there none at) k = k
 changes_kept w h e p (came_grow run block serves there at short) k = k
 changes_kept w h e p (came_add run block is there placed known) k = k
+changes_kept w h e p (came_flushed q name s working idle down) k =
+    changes_acted w h q (Fsync name) p working.admitted idle k
+changes_kept w h e p (came_synced q name s working acted safe) k = changes_ret h q p k
+changes_kept w h e p (came_seal may) k = k
+changes_kept w h e p (came_journal kind first n j) k = k
 changes_kept w h e p (came_send r few oldest) k = k
 changes_kept w h e p (came_done j r at) k = k

@@ -18,14 +18,18 @@ use Rattle.split_types.specs.DiskContents.{WritesStayApart}
 use Rattle.split_types.specs.Accepted.{IsAccepted}
 use Rattle.split_types.specs.Legal.{IsLegal}
 use Rattle.split_types.specs.Proving.Came.{Came}
-use Rattle.split_types.specs.Proving.Came.Came.{came_load, came_add, came_done}
-use Rattle.split_types.specs.Proving.Known.{Known}
+use Rattle.split_types.specs.Proving.Came.Came.{came_load, came_add, came_journal, came_done}
+use Rattle.split_types.specs.Proving.Known.{HasRun}
+use Rattle.split_types.specs.Proving.JournalKnown.{IsJournalRun}
 use Rattle.split_types.proofs.Lists.{slice_get-push, find_some, counted_here, count_none}
 use Rattle.split_types.proofs.WaitingLaws.{number_here, same_number}
 use Rattle.split_types.proofs.CameLaws.{came}
-use Rattle.split_types.proofs.KnownLaws.{known}
+use Rattle.split_types.proofs.KnownLaws.{known, has_run}
+use Rattle.split_types.proofs.JournalRows.{journal_apart}
+use Rattle.split_types.proofs.JournalStepsAdds.{journal_known}
 use Rattle.split_types.proofs.KeptLists.{case_true, case_false, one_passes}
-use Rattle.split_types.proofs.CoverLaws.{MovesIn, written, same_page}
+use Rattle.split_types.proofs.PagesKeep.{pages_keep}
+use Rattle.split_types.proofs.CoverLaws.{MovesIn, moved, write_tests, block_from, same_page}
 
 -- ---- adds
 pub adding_new : (h : List Event) (by : Actor) (r : Request)
@@ -42,6 +46,7 @@ adding_old h by r id other =
 pub add_number : (w : Workload) (h : List Event) (by : Actor) (r : Request) → Came w h (Add by r) → r.id.0 ≡ adds h
 add_number w h by r (came_load p c s piece here absent block at) = refl
 add_number w h by r (came_add run block at there placed long) = refl
+add_number w h by r (came_journal kind first n j) = refl
 
 pub adding_kept : (w : Workload) (h : List Event) (e : Event) (id : ReqId) → IsLegal w (h ▹ e) → id.0 < adds h
     → adding (h ▹ e) id ≡ adding h id
@@ -88,22 +93,50 @@ before_legal w (h ▹ Add by r) id a legal at =
 before_legal w (h ▹ e) id a legal at = before_legal w h id a legal.1 at
 
 -- ---- requests that aren't done well
-pub left_run : (w : Workload) (h : List Event) (k : ℕ) (r : Request) → Known w h
-    → slice_get (unfinished h) k ≡ Some r → MovesIn w h r
-left_run w h k r f at = f.runs r.id.0 r (f.waiting.left_of k r at)
+pub left_run : (w : Workload) (h : List Event) (k : ℕ) (r : Request) → IsAccepted w → IsLegal w h
+    → slice_get (unfinished h) k ≡ Some r → HasRun w h r
+left_run w h k r accepted legal at =
+    let f = known w h accepted legal
+    in has_run w h r.id.0 r f.runs (journal_known w h accepted legal) (f.waiting.left_of k r at)
+
+-- what the commit thread writes lies below what pages are written to
+low_high : (w : Workload) (h : List Event) (x : ℕ) (q r : Request) → IsAccepted w → IsLegal w h → IsJournalRun w q
+    → MovesIn w h r → writes q x ≡ true → writes r x ≡ true → ⊥
+low_high w h x q r accepted legal low run first second =
+    let there = moved w h r x run second
+    in omega (arith, low.within, write_tests q x first, block_from w h there.serial.0 there.page x accepted legal there.at)
+
+-- no two that write pages write one block
+pages_apart : (w : Workload) (h : List Event) (x i j : ℕ) (q r : Request) → IsAccepted w → IsLegal w h
+    → slice_get (unfinished h) i ≡ Some q → slice_get (unfinished h) j ≡ Some r
+    → MovesIn w h q → MovesIn w h r → writes q x ≡ true → writes r x ≡ true → i ≡ j
+pages_apart w h x i j q r accepted legal at there run other first second =
+    let f = known w h accepted legal
+    in let one = moved w h q x run first
+    in let two = moved w h r x other second
+    in one_passes (λ z. covers z (Page one.serial one.page)) (unfinished h) i j q r at there one.covers_it
+    (subst (λ b. covers r b ≡ true)
+    (same_page w h two.serial two.page one.serial one.page x accepted legal
+    (pages_keep w h j r two.serial two.page accepted legal there two.covers_it)
+    (pages_keep w h i q one.serial one.page accepted legal at one.covers_it) two.at one.at) two.covers_it)
+    (f.takes one.serial one.page)
 
 -- no two of them write one block
 pub writes_apart : (w : Workload) (h : List Event) (x i j : ℕ) (q r : Request) → IsAccepted w → IsLegal w h
     → slice_get (unfinished h) i ≡ Some q → slice_get (unfinished h) j ≡ Some r → writes q x ≡ true
     → writes r x ≡ true → i ≡ j
 writes_apart w h x i j q r accepted legal at there first second =
-    let f = known w h accepted legal
-    in let one = written w h q x (left_run w h i q f at) first
-    in let two = written w h r x (left_run w h j r f there) second
-    in one_passes (λ z. covers z (Page one.serial one.page)) (unfinished h) i j q r at there one.covers_it
-    (subst (λ b. covers r b ≡ true)
-    (same_page w h two.serial two.page one.serial one.page x accepted legal two.at one.at) two.covers_it)
-    (f.takes one.serial one.page)
+    by_run (left_run w h i q accepted legal at) (left_run w h j r accepted legal there)
+  where
+    by_run : HasRun w h q → HasRun w h r → i ≡ j
+    by_run (inl run) (inl other) = pages_apart w h x i j q r accepted legal at there run other first second
+    by_run (inl run) (inr low) = absurd (low_high w h x r q accepted legal low run second first)
+    by_run (inr low) (inl run) = absurd (low_high w h x q r accepted legal low run first second)
+    by_run (inr one) (inr two) =
+        let lies = write_tests q x first
+        in let also = write_tests r x second
+        in journal_apart w h x i j q r (journal_known w h accepted legal) at there one.commits two.commits lies.1
+        lies.2 also.1 also.2
 
 -- a request that is done now: it was in flight, so not done before
 pub record IsDone (w : Workload) (h : List Event) (k : ℕ) (id : ReqId) : Type 0 where
@@ -114,7 +147,7 @@ pub record IsDone (w : Workload) (h : List Event) (k : ℕ) (id : ReqId) : Type 
   pub place : ℕ
   pub there : slice_get (unfinished h) place ≡ Some request
   pub added : adding h id ≡ Some (record { request = request; before = before })
-  pub run : MovesIn w h request
+  pub run : HasRun w h request
 
 done_of : (w : Workload) (h : List Event) (k : ℕ) (r : Request) → IsAccepted w → IsLegal w h
     → slice_get (in_flight h) k ≡ Some r → IsDone w h k r.id
@@ -136,7 +169,7 @@ done_of w h k r accepted legal at =
       place = found.place;
       there = found.there ∙ ap Some same;
       added = add.1;
-      run = f.runs r.id.0 r own;
+      run = has_run w h r.id.0 r f.runs (journal_known w h accepted legal) own;
     }
 
 pub is_done : (w : Workload) (h : List Event) (k : ℕ) (id : ReqId) → IsAccepted w → IsLegal w (h ▹ Done k id true)

@@ -1,5 +1,5 @@
 -- What is billed to each process.
-use Rattle.std.specs.Prelude.{ℕ, ◌+◌, ◌==◌, List, [], ◌∷◌, length, map, filter, nat_lt, if◌then◌else◌}
+use Rattle.std.specs.Prelude.{ℕ, ◌+◌, ◌==◌, List, [], ◌∷◌, map, nat_lt, if◌then◌else◌}
 use Rattle.split_types.specs.declared.ids.Txn.{Txn}
 use Rattle.split_types.specs.declared.buf.Buf.{Buf}
 use Rattle.split_types.specs.declared.request.ReqKind.{ReqKind}
@@ -9,20 +9,19 @@ use Rattle.split_types.specs.declared.workload.Workload.{Workload}
 use Rattle.split_types.specs.declared.event.Event.{Event}
 use Rattle.split_types.specs.declared.event.Event.TheVariants.{Add, Done}
 use Rattle.split_types.specs.History.{◌▹◌, adds}
-use Rattle.split_types.specs.OpenDirtyings.{open_at}
 use Rattle.split_types.specs.Rounds.{before_seal}
-use Rattle.split_types.specs.Parents.{pages_of, metadata_buffers}
+use Rattle.split_types.specs.Parents.{pages_of}
+use Rattle.split_types.specs.Transactions.{marked_buffers}
 use Rattle.split_types.specs.Blame.{causes, tag}
 use Rattle.split_types.specs.Share.{bill_of_parts}
 use Rattle.split_types.specs.CostAndClock.{cost_of}
 
 -- the buffers of metadata that the seal of a transaction took, by rising block
 abbrev pub sealed : List Event → Txn → List Buf
-sealed h t = filter (λ b. nat_lt 0 (length (open_at (before_seal h t) b))) metadata_buffers
+sealed h t = marked_buffers (before_seal h t)
 
 -- the sets of processes that bear a request added after h, one for each of its blocks: for pages those to blame for
--- each
--- page, for a log all of its tag for the first block, and then those to blame for each buffer that was sealed
+-- each page, for a log all of its tag for the first block, and then those to blame for each buffer that was sealed
 abbrev pub parts_of_add : List Event → Request → List ℕ → List (List ℕ)
 parts_of_add h r all = by_kind r.kind where
   by_kind : ReqKind → List (List ℕ)

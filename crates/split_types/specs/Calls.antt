@@ -1,10 +1,10 @@
 -- How far each process has come in its calls.
-use Rattle.std.specs.Prelude.{ℕ, ◌+◌, ◌-◌, ◌==◌, List, [], slice_get, Bool, false, not, ◌&&◌, ◌||◌, Option, if◌then◌else◌}
+use Rattle.std.specs.Prelude.{ℕ, ◌+◌, ◌-◌, ◌==◌, List, [], length, slice_get, Bool, false, not, ◌&&◌, ◌||◌, Option, if◌then◌else◌}
 use Rattle.split_types.specs.declared.call.Call.{Call}
 use Rattle.split_types.specs.declared.call.Call.TheVariants.{Creat, Write, Read, Fsync, Unlink}
 use Rattle.split_types.specs.declared.workload.Workload.{Workload}
 use Rattle.split_types.specs.declared.event.Event.{Event}
-use Rattle.split_types.specs.declared.event.Event.TheVariants.{Enter, Admit, Make, Put, Get, Drop, Ret}
+use Rattle.split_types.specs.declared.event.Event.TheVariants.{Enter, Admit, Make, Put, Get, Drop, Flushed, Ret}
 use Rattle.split_types.specs.History.{◌▹◌}
 use Rattle.split_types.specs.Workloads.{calls_of}
 
@@ -28,11 +28,12 @@ is_admitted (h ▹ Admit by) p = by.0 == p || is_admitted h p
 is_admitted (h ▹ Ret by r) p = not (by.0 == p) && is_admitted h p
 is_admitted (h ▹ e) p = is_admitted h p
 
--- the call of process p under way made its file, or dropped it
+-- the call of process p under way made its file, dropped it, or was flushed
 abbrev pub has_acted : List Event → ℕ → Bool
 has_acted [] p = false
 has_acted (h ▹ Make by slot serial) p = by.0 == p || has_acted h p
 has_acted (h ▹ Drop by slot serial) p = by.0 == p || has_acted h p
+has_acted (h ▹ Flushed by) p = by.0 == p || has_acted h p
 has_acted (h ▹ Ret by r) p = not (by.0 == p) && has_acted h p
 has_acted (h ▹ e) p = has_acted h p
 
@@ -47,6 +48,10 @@ moved (h ▹ e) p = moved h p
 -- the call of process p that is under way, or else its next call; none where no call is left
 abbrev pub call_of : Workload → List Event → ℕ → Option Call
 call_of w h p = slice_get (calls_of w p) (returned h p)
+
+-- all calls of process p have returned
+abbrev pub is_finished : Workload → List Event → ℕ → Bool
+is_finished w h p = returned h p == length (calls_of w p)
 
 -- the name that a call names
 abbrev pub name_of : Call → List ℕ

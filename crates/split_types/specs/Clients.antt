@@ -12,7 +12,7 @@ use Rattle.split_types.specs.declared.call.Reply.TheVariants as reply
 use Rattle.split_types.specs.declared.request.ReqKind.TheVariants as kind
 use Rattle.split_types.specs.declared.workload.Workload.{Workload}
 use Rattle.split_types.specs.declared.event.Event.{Event}
-use Rattle.split_types.specs.declared.event.Event.TheVariants.{Enter, Admit, Make, Put, Get, Drop, Ret, Add, Evict}
+use Rattle.split_types.specs.declared.event.Event.TheVariants.{Enter, Admit, Make, Put, Get, Drop, Flushed, Ret, Add, Evict}
 use Rattle.split_types.specs.History.{adds}
 use Rattle.split_types.specs.Rows.{◌⇒◌∣◌}
 use Rattle.split_types.specs.Calls.{returned, is_entered, is_admitted, has_acted, moved, call_of}
@@ -21,12 +21,13 @@ use Rattle.split_types.specs.Reads.{is_loading, is_read_badly}
 use Rattle.split_types.specs.HeldPages.{is_held, is_full, is_unsettled, is_crowded}
 use Rattle.split_types.specs.Victims.{victim}
 use Rattle.split_types.specs.FileSizes.{working_file}
-use Rattle.split_types.specs.Files.{is_name_taken}
+use Rattle.split_types.specs.Files.{is_name_taken, bound_file}
 use Rattle.split_types.specs.FileMaps.{mapped_block, is_without_space, is_in_mapped_run}
 use Rattle.split_types.specs.LiveFiles.{free_slot}
 use Rattle.split_types.specs.FileSlots.{live_files, next_serial, slot_of_some}
 use Rattle.split_types.specs.PageBytes.{sum_of_bytes}
 use Rattle.split_types.specs.Pieces.{Piece, is_whole, piece_left, got}
+use Rattle.split_types.specs.Syncing.{admit_place, is_written, awaited_txn, is_safe}
 
 -- ---- what decides
 
@@ -90,8 +91,12 @@ pub record ClientState : Type 0 where
   pub entered : Bool
   pub may_admit : Bool
   pub admitted : Bool
-  -- it made its file, or dropped it
+  -- it made its file, dropped it, or was flushed
   pub acted : Bool
+  -- every put in its file before it was admitted is on the disk; the last change of its file before it was flushed is
+  -- committed, or there is none
+  pub flushable : Bool
+  pub committed : Bool
   -- a file of the name of its call is there
   pub name_taken : Bool
   -- the least free slot, and the least number that no file ever had
@@ -120,6 +125,8 @@ client_state w h p = record {
   may_admit = admits w h p.0;
   admitted = is_admitted h p.0;
   acted = has_acted h p.0;
+  flushable = is_written h (bound_file w h p.0) (admit_place h p.0);
+  committed = is_safe h (awaited_txn w h p.0);
   name_taken = is_name_taken w h (call_of w h p.0);
   free_slot = free_slot (live_files w h);
   new_serial = next_serial w h;
@@ -205,10 +212,17 @@ next_of_fitting c end fill =
     nat_lt most_bytes end ⇒ Some (Ret c.by reply.TooBig)
     ∣ next_of_write c fill
 
+-- what comes next in an admitted fsync whose file is there: it waits for the data, and then for the file's metadata
+abbrev pub next_of_fsync : ClientState → Option Event
+next_of_fsync c =
+    not c.acted ⇒ (if c.flushable then Some (Flushed c.by) else None)
+    ∣ (if c.committed then Some (Ret c.by reply.Done) else None)
+
 -- what comes next in an admitted call whose file is there
 abbrev pub next_on_file : ClientState → Call → Serial → Option Event
 next_on_file c (call.Write name off len fill) serial = next_of_fitting c (off + len) fill
 next_on_file c (call.Read name off len) serial = next_of_read c
+next_on_file c (call.Fsync name) serial = next_of_fsync c
 next_on_file c (call.Unlink name) serial = Some (Drop c.by c.slot serial)
 next_on_file c _ serial = None
 

@@ -1,9 +1,9 @@
 -- What write requests carry, and what the blocks of the disk hold.
-use Rattle.std.specs.Prelude.{ℕ, ◌+◌, ◌-◌, ◌==◌, List, [], ◌∷◌, length, map, find, nat_le, nat_lt, Bool, true, false, ◌&&◌, Option, Some, None, if◌then◌else◌}
+use Rattle.std.specs.Prelude.{ℕ, ◌+◌, ◌-◌, ◌==◌, List, [], ◌∷◌, map, find, nat_le, nat_lt, Bool, true, false, ◌&&◌, Option, Some, None, if◌then◌else◌}
 use Rattle.split_types.specs.declared.ids.ReqId.{ReqId}
 use Rattle.split_types.specs.declared.ids.Txn.{Txn}
 use Rattle.split_types.specs.declared.buf.Buf.{Buf}
-use Rattle.split_types.specs.declared.buf.Buf.TheVariants.{Page, Bitmap, Dir, Inode}
+use Rattle.split_types.specs.declared.buf.Buf.TheVariants.{Page}
 use Rattle.split_types.specs.declared.request.ReqKind.{ReqKind}
 use Rattle.split_types.specs.declared.request.ReqKind.TheVariants.{Read, Pages, Log, Commit, Home, Clear}
 use Rattle.split_types.specs.declared.request.Request.{Request}
@@ -12,9 +12,9 @@ use Rattle.split_types.specs.declared.workload.Workload.{Workload}
 use Rattle.split_types.specs.declared.event.Event.{Event}
 use Rattle.split_types.specs.declared.event.Event.TheVariants.{Add, Done}
 use Rattle.split_types.specs.History.{◌▹◌}
-use Rattle.split_types.specs.OpenDirtyings.{open_at}
 use Rattle.split_types.specs.Rounds.{Sealing, before_seal, round_of}
-use Rattle.split_types.specs.Parents.{buffer_at}
+use Rattle.split_types.specs.Parents.{buffer_at, home_block}
+use Rattle.split_types.specs.Transactions.{is_marked}
 use Rattle.split_types.specs.Bills.{sealed}
 use Rattle.split_types.specs.Workloads.{first_block}
 use Rattle.split_types.specs.Requests.{is_numbered, is_write}
@@ -23,13 +23,6 @@ use Rattle.split_types.specs.FileSlots.{metadata_bytes}
 use Rattle.split_types.specs.PageBytes.{filled_page, page_bytes}
 
 -- ---- what a write request carries
-
--- the block of a buffer of metadata
-abbrev pub home_block : Buf → ℕ
-home_block Bitmap = 1
-home_block (Dir k) = 2 + k
-home_block (Inode slot) = 6 + slot.0
-home_block (Page s g) = 0
 
 -- the bytes of a buffer, if there is one: a page, or a block of metadata
 abbrev pub buffer_bytes : Workload → List Event → Option Buf → List ℕ
@@ -52,7 +45,7 @@ log_bytes w h t i =
 
 -- the seal took the buffer
 abbrev pub takes : Buf → Sealing → Bool
-takes b s = nat_lt 0 (length (open_at s.before b))
+takes b s = is_marked s.before b
 
 -- the history before the last seal of the transaction's round that took the buffer
 abbrev pub before_last_take : List Event → Txn → Buf → List Event

@@ -45,11 +45,11 @@ pub record IsOnDisk (w : Workload) (h : List Event) (s : Serial) (g x : ℕ) : T
       → disk_block w h x ≡ page_bytes w h s g
 
 -- in every history that an accepted workload may have: what is known of each page that has a block and whose file is
--- there; a block that no page of any file ever had keeps what it held at the start; each block of data is whole
+-- there; a block of data that no page of any file ever had keeps what it held at the start; each block of data is whole
 pub record CleanPagesAreOnDisk : Type 0 where
   pub pages : (w : Workload) (h : List Event) (s : Serial) (g x : ℕ) → IsAccepted w → IsLegal w h
       → IsTrue (is_live w h s.0) → mapped_block w h s.0 g ≡ Some x → IsOnDisk w h s g x
-  pub others : (w : Workload) (h : List Event) (x : ℕ) → IsAccepted w → IsLegal w h
+  pub others : (w : Workload) (h : List Event) (x : ℕ) → IsAccepted w → IsLegal w h → first_block w ≤ x
       → ((s : Serial) (g : ℕ) → mapped_block w h s.0 g ≡ Some x → ⊥) → disk_block w h x ≡ start_block w x
   pub whole : (w : Workload) (h : List Event) (x : ℕ) → IsAccepted w → IsLegal w h → first_block w ≤ x
       → length (disk_block w h x) ≡ 4096

@@ -1,15 +1,15 @@
 -- Workloads that serve as examples of files that come, grow and go, and the history of each.
 use Rattle.std.specs.Prelude.{ℕ, ◌+◌, ◌/◌, ◌%◌, List, [], ◌∷◌, map, true, codes}
 use Rattle.std.specs.List.{range_with_len}
-use Rattle.split_types.specs.declared.actor.Actor.TheVariants.{Client, Wb, Dq}
+use Rattle.split_types.specs.declared.actor.Actor.TheVariants.{Client, Wb, Cm, Dq}
 use Rattle.split_types.specs.declared.call.Call.TheVariants as call
 use Rattle.split_types.specs.declared.call.Reply.TheVariants as reply
-use Rattle.split_types.specs.declared.request.ReqKind.TheVariants.{Read, Pages}
+use Rattle.split_types.specs.declared.request.ReqKind.TheVariants.{Read, Pages, Log, Commit, Home, Clear}
 use Rattle.split_types.specs.declared.workload.Workload.{Workload}
 use Rattle.split_types.specs.declared.event.Event.{Event}
-use Rattle.split_types.specs.declared.event.Event.TheVariants.{Enter, Admit, Make, Put, Get, Drop, Ret, Serve, Map, Add, Send, Done}
+use Rattle.split_types.specs.declared.event.Event.TheVariants.{Enter, Admit, Make, Put, Get, Drop, Ret, Serve, Map, Skip, Seal, Add, Send, Done}
 use Rattle.split_types.specs.History.{◌▹◌}
-use Rattle.split_types.specs.Examples.{c1, c2, file, slot, req, request}
+use Rattle.split_types.specs.Examples.{c1, c2, file, slot, req, txn, request}
 use Rattle.split_types.specs.CacheExamples.{preset, turns, load}
 
 -- two pages for the one block that is free: the second is not written
@@ -27,8 +27,24 @@ last_block =
     ▹ Serve (file 1) 0 1
     ▹ Map (slot 1) (file 1) 0 1 1023 true 4096
     ▹ Add Wb (request 0 (Pages (file 1) 0) 1023 1)
+    ▹ Seal (txn 1) 2
+    ▹ Add Cm (request 1 (Log (txn 1)) 262 3)
     ▹ Send (req 0) 52
     ▹ Done 0 (req 0) true
+    ▹ Send (req 1) 56
+    ▹ Done 0 (req 1) true
+    ▹ Add Cm (request 2 (Commit (txn 1)) 525 1)
+    ▹ Send (req 2) 52
+    ▹ Done 0 (req 2) true
+    ▹ Add Cm (request 3 (Home (txn 1)) 1 1)
+    ▹ Add Cm (request 4 (Home (txn 1)) 7 1)
+    ▹ Send (req 3) 52
+    ▹ Done 0 (req 3) true
+    ▹ Send (req 4) 22
+    ▹ Done 0 (req 4) true
+    ▹ Add Cm (request 5 (Clear (txn 1)) 525 1)
+    ▹ Send (req 5) 52
+    ▹ Done 0 (req 5) true
 
 -- the blocks of a file that was dropped are not free before its drop is on disk, although no other block is left
 abbrev pub waiting_blocks_load : Workload
@@ -46,6 +62,25 @@ waiting_blocks =
     ▹ Enter c1 1
     ▹ Admit c1
     ▹ Ret c1 (reply.NoSpace 0)
+    ▹ Seal (txn 1) 3
+    ▹ Add Cm (request 0 (Log (txn 1)) 262 4)
+    ▹ Send (req 0) 58
+    ▹ Done 0 (req 0) true
+    ▹ Add Cm (request 1 (Commit (txn 1)) 525 1)
+    ▹ Send (req 1) 52
+    ▹ Done 0 (req 1) true
+    ▹ Add Cm (request 2 (Home (txn 1)) 1 1)
+    ▹ Add Cm (request 3 (Home (txn 1)) 2 1)
+    ▹ Add Cm (request 4 (Home (txn 1)) 6 1)
+    ▹ Send (req 2) 52
+    ▹ Done 0 (req 2) true
+    ▹ Send (req 3) 2
+    ▹ Done 0 (req 3) true
+    ▹ Send (req 4) 22
+    ▹ Done 0 (req 4) true
+    ▹ Add Cm (request 5 (Clear (txn 1)) 525 1)
+    ▹ Send (req 5) 52
+    ▹ Done 0 (req 5) true
 
 -- a file is dropped after the serve of its page and before the page got a block
 abbrev pub dropped_in_service_load : Workload
@@ -66,6 +101,26 @@ dropped_in_service =
     ▹ Admit c2
     ▹ Drop c2 (slot 0) (file 0)
     ▹ Ret c2 reply.Done
+    ▹ Skip
+    ▹ Seal (txn 1) 3
+    ▹ Add Cm (request 0 (Log (txn 1)) 262 4)
+    ▹ Send (req 0) 58
+    ▹ Done 0 (req 0) true
+    ▹ Add Cm (request 1 (Commit (txn 1)) 525 1)
+    ▹ Send (req 1) 52
+    ▹ Done 0 (req 1) true
+    ▹ Add Cm (request 2 (Home (txn 1)) 1 1)
+    ▹ Add Cm (request 3 (Home (txn 1)) 2 1)
+    ▹ Add Cm (request 4 (Home (txn 1)) 6 1)
+    ▹ Send (req 2) 52
+    ▹ Done 0 (req 2) true
+    ▹ Send (req 3) 2
+    ▹ Done 0 (req 3) true
+    ▹ Send (req 4) 22
+    ▹ Done 0 (req 4) true
+    ▹ Add Cm (request 5 (Clear (txn 1)) 525 1)
+    ▹ Send (req 5) 52
+    ▹ Done 0 (req 5) true
 
 -- a file is dropped while its page is written out: the page takes no place from then on, and the next write goes on
 abbrev pub dropped_in_flight_load : Workload
@@ -95,9 +150,28 @@ dropped_in_flight =
     ▹ Ret c1 reply.Done
     ▹ Serve (file 1) 0 1
     ▹ Add Wb (request 1 (Pages (file 1) 0) 527 1)
+    ▹ Seal (txn 1) 3
+    ▹ Add Cm (request 2 (Log (txn 1)) 262 4)
     ▹ Done 0 (req 0) true
     ▹ Send (req 1) 2
     ▹ Done 0 (req 1) true
+    ▹ Send (req 2) 58
+    ▹ Done 0 (req 2) true
+    ▹ Add Cm (request 3 (Commit (txn 1)) 525 1)
+    ▹ Send (req 3) 52
+    ▹ Done 0 (req 3) true
+    ▹ Add Cm (request 4 (Home (txn 1)) 1 1)
+    ▹ Add Cm (request 5 (Home (txn 1)) 2 1)
+    ▹ Add Cm (request 6 (Home (txn 1)) 6 1)
+    ▹ Send (req 4) 52
+    ▹ Done 0 (req 4) true
+    ▹ Send (req 5) 2
+    ▹ Done 0 (req 5) true
+    ▹ Send (req 6) 22
+    ▹ Done 0 (req 6) true
+    ▹ Add Cm (request 7 (Clear (txn 1)) 525 1)
+    ▹ Send (req 7) 52
+    ▹ Done 0 (req 7) true
 
 -- a file is dropped while its page is read: the read's call returns before the read is done
 abbrev pub dropped_at_read_load : Workload
@@ -118,7 +192,26 @@ dropped_at_read =
     ▹ Drop c2 (slot 0) (file 0)
     ▹ Ret c2 reply.Done
     ▹ Ret c1 reply.NoFile
+    ▹ Seal (txn 1) 3
+    ▹ Add Cm (request 1 (Log (txn 1)) 262 4)
     ▹ Done 0 (req 0) true
+    ▹ Send (req 1) 58
+    ▹ Done 0 (req 1) true
+    ▹ Add Cm (request 2 (Commit (txn 1)) 525 1)
+    ▹ Send (req 2) 52
+    ▹ Done 0 (req 2) true
+    ▹ Add Cm (request 3 (Home (txn 1)) 1 1)
+    ▹ Add Cm (request 4 (Home (txn 1)) 2 1)
+    ▹ Add Cm (request 5 (Home (txn 1)) 6 1)
+    ▹ Send (req 3) 52
+    ▹ Done 0 (req 3) true
+    ▹ Send (req 4) 2
+    ▹ Done 0 (req 4) true
+    ▹ Send (req 5) 22
+    ▹ Done 0 (req 5) true
+    ▹ Add Cm (request 6 (Clear (txn 1)) 525 1)
+    ▹ Send (req 6) 52
+    ▹ Done 0 (req 6) true
 
 -- the last page that a file may have is written, and then a byte behind it
 abbrev pub largest_file_load : Workload
@@ -139,8 +232,24 @@ largest_file =
     ▹ Serve (file 0) 1007 1
     ▹ Map (slot 0) (file 0) 1007 1 526 true 4128768
     ▹ Add Wb (request 0 (Pages (file 0) 1007) 526 1)
+    ▹ Seal (txn 1) 2
+    ▹ Add Cm (request 1 (Log (txn 1)) 262 3)
     ▹ Send (req 0) 52
     ▹ Done 0 (req 0) true
+    ▹ Send (req 1) 56
+    ▹ Done 0 (req 1) true
+    ▹ Add Cm (request 2 (Commit (txn 1)) 525 1)
+    ▹ Send (req 2) 52
+    ▹ Done 0 (req 2) true
+    ▹ Add Cm (request 3 (Home (txn 1)) 1 1)
+    ▹ Add Cm (request 4 (Home (txn 1)) 6 1)
+    ▹ Send (req 3) 52
+    ▹ Done 0 (req 3) true
+    ▹ Send (req 4) 22
+    ▹ Done 0 (req 4) true
+    ▹ Add Cm (request 5 (Clear (txn 1)) 525 1)
+    ▹ Send (req 5) 52
+    ▹ Done 0 (req 5) true
 
 -- a new file is written behind its start: the page in front has no block, and is read as zeros
 abbrev pub hole_load : Workload
@@ -149,7 +258,8 @@ hole_load =
     ((c1, call.Creat (codes "x")) ∷ (c1, call.Write (codes "x") 5000 10 66) ∷ (c1, call.Read (codes "x") 0 6000) ∷ [])
     []
 
--- the history, where the first block of data is this one, and the request for it has this cost
+-- the history, where the first block of data is this one, and the request for it has this cost; the log, which writes
+-- three blocks more, costs 6 more
 abbrev pub hole_at : ℕ → ℕ → List Event
 hole_at block cost =
     []
@@ -169,8 +279,27 @@ hole_at block cost =
     ▹ Serve (file 0) 1 1
     ▹ Map (slot 0) (file 0) 1 1 block true 5010
     ▹ Add Wb (request 0 (Pages (file 0) 1) block 1)
+    ▹ Seal (txn 1) 3
+    ▹ Add Cm (request 1 (Log (txn 1)) 262 4)
     ▹ Send (req 0) cost
     ▹ Done 0 (req 0) true
+    ▹ Send (req 1) (cost + 6)
+    ▹ Done 0 (req 1) true
+    ▹ Add Cm (request 2 (Commit (txn 1)) 525 1)
+    ▹ Send (req 2) 52
+    ▹ Done 0 (req 2) true
+    ▹ Add Cm (request 3 (Home (txn 1)) 1 1)
+    ▹ Add Cm (request 4 (Home (txn 1)) 2 1)
+    ▹ Add Cm (request 5 (Home (txn 1)) 6 1)
+    ▹ Send (req 3) 52
+    ▹ Done 0 (req 3) true
+    ▹ Send (req 4) 2
+    ▹ Done 0 (req 4) true
+    ▹ Send (req 5) 22
+    ▹ Done 0 (req 5) true
+    ▹ Add Cm (request 6 (Clear (txn 1)) 525 1)
+    ▹ Send (req 6) 52
+    ▹ Done 0 (req 6) true
 
 abbrev pub hole : List Event
 hole = hole_at 526 52
@@ -222,6 +351,28 @@ slot_again =
     ▹ Admit c1
     ▹ Make c1 (slot 2) (file 3)
     ▹ Ret c1 reply.Done
+    ▹ Seal (txn 1) 4
+    ▹ Add Cm (request 0 (Log (txn 1)) 262 5)
+    ▹ Send (req 0) 60
+    ▹ Done 0 (req 0) true
+    ▹ Add Cm (request 1 (Commit (txn 1)) 525 1)
+    ▹ Send (req 1) 52
+    ▹ Done 0 (req 1) true
+    ▹ Add Cm (request 2 (Home (txn 1)) 1 1)
+    ▹ Add Cm (request 3 (Home (txn 1)) 2 1)
+    ▹ Add Cm (request 4 (Home (txn 1)) 6 1)
+    ▹ Add Cm (request 5 (Home (txn 1)) 8 1)
+    ▹ Send (req 2) 52
+    ▹ Done 0 (req 2) true
+    ▹ Send (req 3) 2
+    ▹ Done 0 (req 3) true
+    ▹ Send (req 4) 22
+    ▹ Done 0 (req 4) true
+    ▹ Send (req 5) 22
+    ▹ Done 0 (req 5) true
+    ▹ Add Cm (request 6 (Clear (txn 1)) 525 1)
+    ▹ Send (req 6) 52
+    ▹ Done 0 (req 6) true
 
 -- a name of two letters, a different one for each number below 256
 abbrev pub two_letters : ℕ → List ℕ

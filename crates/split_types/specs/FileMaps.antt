@@ -11,9 +11,10 @@ use Rattle.split_types.specs.declared.request.Service.{Service}
 use Rattle.split_types.specs.declared.request.Service.TheVariants.{Mapped}
 use Rattle.split_types.specs.declared.workload.Workload.{Workload}
 use Rattle.split_types.specs.declared.event.Event.{Event}
-use Rattle.split_types.specs.declared.event.Event.TheVariants.{Make, Drop, Map, Seal, Done}
+use Rattle.split_types.specs.declared.event.Event.TheVariants.{Make, Drop, Map, Done}
 use Rattle.split_types.specs.History.{◌▹◌}
 use Rattle.split_types.specs.Hooks.{is_among}
+use Rattle.split_types.specs.Rounds.{next_txn}
 use Rattle.split_types.specs.Workloads.{pages_in, page_block, first_block}
 use Rattle.split_types.specs.Files.{is_live}
 use Rattle.split_types.specs.Pages.{is_dirty}
@@ -55,16 +56,11 @@ is_dropped [] s = false
 is_dropped (h ▹ Drop by slot serial) s = serial.0 == s || is_dropped h s
 is_dropped (h ▹ e) s = is_dropped h s
 
--- this transaction, where none was there before and the file was dropped
-abbrev pub first_after_drop : Bool → Txn → Option Txn → Option Txn
-first_after_drop dropped t (Some u) = Some u
-first_after_drop dropped t None = if dropped then Some t else None
-
--- the transaction of the first seal after the file was dropped
-abbrev pub seal_after_drop : List Event → ℕ → Option Txn
-seal_after_drop [] s = None
-seal_after_drop (h ▹ Seal t k) s = first_after_drop (is_dropped h s) t (seal_after_drop h s)
-seal_after_drop (h ▹ e) s = seal_after_drop h s
+-- the transaction that takes the drop of a file: the one that is sealed next after it
+abbrev pub drop_txn : List Event → ℕ → Option Txn
+drop_txn [] s = None
+drop_txn (h ▹ Drop by slot serial) s = elim (serial.0 == s) [ true ↦ Some (next_txn h) | false ↦ drop_txn h s ]
+drop_txn (h ▹ e) s = drop_txn h s
 
 -- the request is the commit request of a transaction
 abbrev pub commits : Txn → Option Request → Bool
@@ -85,9 +81,9 @@ abbrev pub is_settled : List Event → Option Txn → Bool
 is_settled h None = false
 is_settled h (Some t) = is_committed h t
 
--- the file was dropped, and the commit request of the first seal after that isn't done well yet
+-- the file was dropped, and the transaction that takes the drop isn't committed
 abbrev pub is_going : List Event → ℕ → Bool
-is_going h s = is_dropped h s && not (is_settled h (seal_after_drop h s))
+is_going h s = is_dropped h s && not (is_settled h (drop_txn h s))
 
 -- ---- all blocks of the disk
 

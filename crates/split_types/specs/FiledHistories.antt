@@ -1,11 +1,11 @@
 -- That the histories which serve as examples of files are those which the stack makes, how they end, and what their
 -- requests cost.
-use Rattle.std.specs.Prelude.{◌≡◌, List, [], ◌∷◌, ◌++◌, map, true, Option, Some, None}
+use Rattle.std.specs.Prelude.{◌≡◌, List, [], ◌∷◌, ◌++◌, map, true, Option, None}
 use Rattle.split_types.specs.declared.call.Reply.{Reply}
 use Rattle.split_types.specs.declared.call.Reply.TheVariants as reply
 use Rattle.split_types.specs.declared.workload.Workload.{Workload}
 use Rattle.split_types.specs.declared.event.Event.{Event}
-use Rattle.split_types.specs.declared.event.Event.TheVariants.{Ret, Skip}
+use Rattle.split_types.specs.declared.event.Event.TheVariants.{Ret}
 use Rattle.split_types.specs.History.{◌▹◌}
 use Rattle.split_types.specs.Next.{next}
 use Rattle.split_types.specs.Legal.{is_drained, turn_order}
@@ -55,10 +55,7 @@ pub record FilesAreMade : Type 0 where
 pub record FilesEnd : Type 0 where
   pub last_block : Ends last_block_load last_block (reply.NoSpace 4096 ∷ []) nobody
   pub waiting_blocks : Ends waiting_blocks_load waiting_blocks (reply.Done ∷ reply.NoSpace 0 ∷ []) nobody
-  -- writeback has still to say that it skips the run that it served
-  pub dropped_in_service :
-      Ends dropped_in_service_load dropped_in_service (reply.Done ∷ reply.Done ∷ [])
-      (None ∷ None ∷ Some Skip ∷ None ∷ None ∷ None ∷ None ∷ [])
+  pub dropped_in_service : Ends dropped_in_service_load dropped_in_service (reply.Done ∷ reply.Done ∷ []) nobody_of_two
   pub dropped_in_flight :
       Ends dropped_in_flight_load dropped_in_flight (reply.Done ∷ reply.Done ∷ reply.Done ∷ []) nobody_of_two
   pub dropped_at_read :
@@ -74,17 +71,43 @@ pub record FilesEnd : Type 0 where
 
 -- what the requests cost, and whom
 pub record FilesAreDue : Type 0 where
-  pub last_block : IsDue last_block_load last_block (own 1 52 ∷ []) (52 ∷ []) 52
-  pub waiting_blocks : IsDue waiting_blocks_load waiting_blocks [] (0 ∷ []) 0
-  pub dropped_in_service : IsDue dropped_in_service_load dropped_in_service [] (0 ∷ 0 ∷ []) 0
+  pub last_block :
+      IsDue last_block_load last_block
+      (own 1 52 ∷ own 1 56 ∷ own 1 52 ∷ own 1 52 ∷ own 1 22 ∷ own 1 52 ∷ [])
+      (286 ∷ []) 286
+  pub waiting_blocks :
+      IsDue waiting_blocks_load waiting_blocks
+      (own 1 58 ∷ own 1 52 ∷ own 1 52 ∷ own 1 2 ∷ own 1 22 ∷ own 1 52 ∷ [])
+      (238 ∷ []) 238
+  pub dropped_in_service :
+      IsDue dropped_in_service_load dropped_in_service
+      (own 2 58 ∷ own 2 52 ∷ own 2 52 ∷ own 2 2 ∷ own 2 22 ∷ own 2 52 ∷ [])
+      (0 ∷ 238 ∷ []) 238
   pub dropped_in_flight :
-      IsDue dropped_in_flight_load dropped_in_flight (own 1 52 ∷ own 1 2 ∷ []) (54 ∷ 0 ∷ []) 54
-  pub dropped_at_read : IsDue dropped_at_read_load dropped_at_read (own 1 52 ∷ []) (52 ∷ 0 ∷ []) 52
-  pub largest_file : IsDue largest_file_load largest_file (own 1 52 ∷ []) (52 ∷ []) 52
-  pub hole : IsDue hole_load hole (own 1 52 ∷ []) (52 ∷ []) 52
-  pub second_layout : IsDue second_layout_load second_layout (own 1 102 ∷ []) (102 ∷ []) 102
+      IsDue dropped_in_flight_load dropped_in_flight
+      (own 1 52 ∷ own 1 2 ∷ own 2 58 ∷ own 2 52 ∷ own 2 52 ∷ own 2 2 ∷ own 2 22 ∷ own 2 52 ∷ [])
+      (54 ∷ 238 ∷ []) 292
+  pub dropped_at_read :
+      IsDue dropped_at_read_load dropped_at_read
+      (own 1 52 ∷ own 2 58 ∷ own 2 52 ∷ own 2 52 ∷ own 2 2 ∷ own 2 22 ∷ own 2 52 ∷ [])
+      (52 ∷ 238 ∷ []) 290
+  pub largest_file :
+      IsDue largest_file_load largest_file
+      (own 1 52 ∷ own 1 56 ∷ own 1 52 ∷ own 1 52 ∷ own 1 22 ∷ own 1 52 ∷ [])
+      (286 ∷ []) 286
+  pub hole :
+      IsDue hole_load hole
+      (own 1 52 ∷ own 1 58 ∷ own 1 52 ∷ own 1 52 ∷ own 1 2 ∷ own 1 22 ∷ own 1 52 ∷ [])
+      (290 ∷ []) 290
+  pub second_layout :
+      IsDue second_layout_load second_layout
+      (own 1 102 ∷ own 1 108 ∷ own 1 52 ∷ own 1 52 ∷ own 1 2 ∷ own 1 22 ∷ own 1 52 ∷ [])
+      (390 ∷ []) 390
   pub no_such_names : IsDue no_such_names_load no_such_names [] (0 ∷ []) 0
-  pub slot_again : IsDue slot_again_load slot_again [] (0 ∷ []) 0
+  pub slot_again :
+      IsDue slot_again_load slot_again
+      (own 1 60 ∷ own 1 52 ∷ own 1 52 ∷ own 1 2 ∷ own 1 22 ∷ own 1 22 ∷ own 1 52 ∷ [])
+      (262 ∷ []) 262
   pub no_slot : IsDue no_slot_load no_slot [] (0 ∷ []) 0
 
 pub record FiledHistories : Type 0 where

@@ -1,7 +1,7 @@
 -- Sizes, blocks and slots of files, and what waits, in the histories that serve as examples of files.
-use Rattle.std.specs.Prelude.{◌≡◌, [], ◌∷◌, map, true, false, codes, Some, None}
+use Rattle.std.specs.Prelude.{◌≡◌, [], ◌∷◌, length, map, true, false, codes, Some, None}
 use Rattle.split_types.specs.declared.buf.Buf.TheVariants.{Page}
-use Rattle.split_types.specs.declared.request.Service.TheVariants.{Serving}
+use Rattle.split_types.specs.declared.request.Service.TheVariants.{Idle, Serving}
 use Rattle.split_types.specs.History.{older}
 use Rattle.split_types.specs.Examples.{file, slot}
 use Rattle.split_types.specs.Files.{live_named}
@@ -31,11 +31,12 @@ pub record WorkedSpace : Type 0 where
       ≡ false ∷ true ∷ []
   pub last_run :
       map (λ n. free_run last_block_load (older last_block n) 1) (5 ∷ 6 ∷ []) ≡ Some (free_from 1023 1) ∷ None ∷ []
-  -- the blocks of a file wait when it is dropped
+  -- the blocks of a dropped file wait until the transaction that took the drop is committed, and are free then
   pub waiting :
-      map (λ n. is_waiting waiting_blocks_load (older waiting_blocks n) 1023) (2 ∷ 3 ∷ 7 ∷ [])
-      ≡ false ∷ true ∷ true ∷ []
-  pub waiting_free : free_blocks waiting_blocks_load waiting_blocks ≡ []
+      map (λ n. is_waiting waiting_blocks_load (older waiting_blocks n) 1023) (2 ∷ 3 ∷ 13 ∷ 14 ∷ [])
+      ≡ false ∷ true ∷ true ∷ false ∷ []
+  pub waiting_free :
+      map (λ n. length (free_blocks waiting_blocks_load (older waiting_blocks n))) (7 ∷ 13 ∷ 14 ∷ []) ≡ 0 ∷ 0 ∷ 498 ∷ []
 
 -- ---- files that grow
 
@@ -59,7 +60,8 @@ pub record WorkedSlots : Type 0 where
   -- nothing is dirty or busy once a file is dropped, although its page is served, or written
   pub unsettled_in_service :
       map (λ n. unsettled_pages dropped_in_service_load (older dropped_in_service n)) (7 ∷ 8 ∷ []) ≡ (page 0 ∷ []) ∷ [] ∷ []
-  pub service_stays : service dropped_in_service ≡ Serving (run 0 1)
+  pub service_stays :
+      map (λ n. service (older dropped_in_service n)) (9 ∷ 10 ∷ []) ≡ Serving (run 0 1) ∷ Idle ∷ []
   pub unsettled_in_flight :
       map (λ n. unsettled_pages dropped_in_flight_load (older dropped_in_flight n)) (9 ∷ 10 ∷ 14 ∷ [])
       ≡ (page 0 ∷ []) ∷ [] ∷ (Page (file 1) 0 ∷ []) ∷ []

@@ -10,8 +10,9 @@ use Rattle.split_types.specs.Hooks.{maker}
 use Rattle.split_types.specs.Requests.{queued, in_flight}
 use Rattle.split_types.specs.Pages.{is_dirty}
 use Rattle.split_types.specs.HeldPages.{known_pages}
-use Rattle.split_types.specs.Workloads.{processes, calls_of, bound}
-use Rattle.split_types.specs.Calls.{returned}
+use Rattle.split_types.specs.Workloads.{processes, bound}
+use Rattle.split_types.specs.Calls.{is_finished}
+use Rattle.split_types.specs.Transactions.{marked_buffers, in_journal}
 use Rattle.split_types.specs.Next.{next}
 
 -- each event is the next one of its actor after the events before it
@@ -19,17 +20,16 @@ abbrev pub IsLegal : Workload → List Event → Type 0
 IsLegal w [] = Unit {0}
 IsLegal w (h ▹ e) = (next w h (maker e) ≡ Some e) × IsLegal w h
 
--- all calls of process p have returned
-abbrev pub is_finished : Workload → List Event → ℕ → Bool
-is_finished w h p = returned h p == length (calls_of w p)
-
--- all calls have returned, no request is queued or in flight, and no page is dirty
+-- all calls have returned, no request is queued or in flight, no page is dirty, no buffer of metadata is marked, and no
+-- transaction is in the journal
 abbrev pub is_drained : Workload → List Event → Bool
 is_drained w h =
     list_all (is_finished w h) (processes w)
     && length (queued h) == 0
     && length (in_flight h) == 0
     && not (list_any (is_dirty w h) (known_pages h))
+    && length (marked_buffers h) == 0
+    && length (in_journal h) == 0
 
 -- the next event of the first of these actors that has one
 abbrev pub first_next : Workload → List Event → List Actor → Option Event

@@ -5,6 +5,7 @@ pub mod Hooks
 pub mod OpenDirtyings
 pub mod Rounds
 pub mod Parents
+pub mod Transactions
 pub mod Sets
 pub mod Blame
 pub mod Share
@@ -27,6 +28,8 @@ pub mod Schedulers
 pub mod Clients
 pub mod Writeback
 pub mod Serving
+pub mod Committing
+pub mod Syncing
 pub mod Next
 pub mod Legal
 pub mod Draining
@@ -35,6 +38,8 @@ pub mod Examples
 pub mod WorkedHistories
 pub mod ByPlace
 pub mod RunningCauses
+pub mod LiveSets
+pub mod JournalPromises
 pub mod LegalHistories
 pub mod Proving
 pub mod DiskLayout
@@ -60,4 +65,7 @@ pub mod CachedHistories
 pub mod FileExamples
 pub mod FiledHistories
 pub mod FiledStates
+pub mod JournalExamples
+pub mod JournaledHistories
+pub mod JournaledStates
 pub mod PagesInCache

@@ -12,6 +12,7 @@ use Rattle.split_types.specs.CostAndClock.{head, cost_at}
 use Rattle.split_types.specs.Schedulers.{pick}
 use Rattle.split_types.specs.Clients.{client_state, next_of_client}
 use Rattle.split_types.specs.Serving.{next_of_writeback}
+use Rattle.split_types.specs.Committing.{next_of_commit}
 
 -- the send of a request, with its cost
 abbrev pub send_of : List Event → Request → Event
@@ -31,7 +32,7 @@ next_of_completion h k = elim (slice_get (in_flight h) k) [ None ↦ None | Some
 abbrev pub next : Workload → List Event → Actor → Option Event
 next w h (Client p) = (nat_le 1 p.0 && nat_le p.0 (length w.procs)) ⇒ next_of_client (client_state w h p) ∣ None
 next w h Wb = next_of_writeback w h
-next w h Cm = None
+next w h Cm = next_of_commit w h
 next w h Dq = next_of_dispatcher w h
 next w h (Dn k) = next_of_completion h k
 next w h Tk = None

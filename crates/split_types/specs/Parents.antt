@@ -1,5 +1,5 @@
 -- Parents: the earlier events for which an event is made.
-use Rattle.std.specs.Prelude.{ℕ, ◌-◌, ◌==◌, List, [], ◌∷◌, ◌++◌, length, map, if◌then◌else◌, nat_lt}
+use Rattle.std.specs.Prelude.{ℕ, ◌+◌, ◌-◌, ◌==◌, List, [], ◌∷◌, ◌++◌, length, map, if◌then◌else◌, nat_lt}
 use Rattle.std.specs.List.{flat_map, range_with_len}
 use Rattle.split_types.specs.declared.ids.Serial.{Serial}
 use Rattle.split_types.specs.declared.buf.Buf.{Buf}
@@ -26,6 +26,13 @@ metadata_buffers =
 abbrev pub buffer_at : ℕ → Buf
 buffer_at block =
     if block == 1 then Bitmap else if nat_lt block 6 then Dir (block - 2) else Inode (record { 0 = block - 6 })
+
+-- the block of a buffer of metadata
+abbrev pub home_block : Buf → ℕ
+home_block Bitmap = 1
+home_block (Dir k) = 2 + k
+home_block (Inode slot) = 6 + slot.0
+home_block (Page s g) = 0
 
 -- the place of the last serve
 abbrev pub last_serve : List Event → List ℕ

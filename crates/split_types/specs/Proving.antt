@@ -4,3 +4,5 @@ pub mod Runs
 pub mod Came
 pub mod Pieces
 pub mod Known
+pub mod JournalKnown
+pub mod Waits

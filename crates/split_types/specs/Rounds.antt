@@ -1,5 +1,5 @@
--- Transactions: where each was sealed, and which of them are of one round.
-use Rattle.std.specs.Prelude.{ℕ, ◌==◌, List, [], ◌∷◌, length, Bool, true, false, if◌then◌else◌}
+-- Transactions: where each was sealed, which of them are of one round, and which slot each takes.
+use Rattle.std.specs.Prelude.{ℕ, ◌+◌, ◌==◌, List, [], ◌∷◌, length, Bool, true, false, if◌then◌else◌}
 use Rattle.std.specs.List.{list_any}
 use Rattle.split_types.specs.declared.ids.Txn.{Txn}
 use Rattle.split_types.specs.declared.request.ReqKind.{ReqKind}
@@ -44,3 +44,24 @@ open_round (h ▹ e) = open_round h
 abbrev pub round_of : List Event → Txn → List Sealing
 round_of [] t = []
 round_of (h ▹ e) t = if list_any (λ s. s.txn.0 == t.0) (open_round (h ▹ e)) then open_round (h ▹ e) else round_of h t
+
+-- ---- numbers
+
+-- the number of seals
+abbrev pub seals : List Event → ℕ
+seals [] = 0
+seals (h ▹ Seal t k) = seals h + 1
+seals (h ▹ e) = seals h
+
+-- transactions are numbered by their seals, from 1: the one that was sealed last, and the one that is sealed next
+abbrev pub last_txn : List Event → Txn
+last_txn h = record { 0 = seals h }
+
+abbrev pub next_txn : List Event → Txn
+next_txn h = record { 0 = seals h + 1 }
+
+-- the slot of a transaction: the number of seals of its round before its own
+abbrev pub slot_of_txn : List Event → Txn → ℕ
+slot_of_txn [] t = 0
+slot_of_txn (h ▹ Seal u k) t = elim (u.0 == t.0) [ true ↦ length (open_round h) | false ↦ slot_of_txn h t ]
+slot_of_txn (h ▹ e) t = slot_of_txn h t

@@ -3,10 +3,10 @@
 //! The types are those of a workload, of the events of its history, and of the facts that a report
 //! shows. The definitions stand in `specs/`, one file each: they look backwards through a history,
 //! which is a list with the newest event first. The contracts of the accessors say which buffers an
-//! event dirties and frees, and which actor makes it. The functions of `laws`, `draining`, `caching` and
-//! `filing` do nothing: their contracts say what the definitions give in worked histories, what they are in terms of
-//! places, that draining ends, that the pages of a cache are counted, evicted and filled as they should be, and that no
-//! two files have a name, a slot or a block in common.
+//! event dirties and frees, and which actor makes it. The functions of `laws`, `draining`, `caching`,
+//! `filing` and `journaling` do nothing: their contracts say what the definitions give in worked histories, what they
+//! are in terms of places, that draining ends, that the pages of a cache are counted, evicted and filled as they should
+//! be, and that no two files have a name, a slot or a block in common.
 //!
 //! All crates but those for streams and for structures over places (`outside`, `fixed_places`) stand on this one.
 #![tactic(auto)]
@@ -21,6 +21,7 @@ mod facts;
 mod filing;
 mod hooks;
 mod ids;
+mod journaling;
 mod laws;
 mod list;
 mod name;
@@ -40,6 +41,7 @@ pub use facts::{AccountFact, Facts, ReqFact, ReqState};
 pub use filing::{filed_histories, filed_states, files_are_in_order, maps_are_in_order};
 pub use hooks::{actor_of, dirties, frees};
 pub use ids::{Pid, ReqId, Serial, Slot, Txn};
+pub use journaling::{journaled_histories, journaled_states};
 pub use laws::{
     bills_conserve, blame_is_set, blamed_are_blamed, dirty_are_open, dirty_have_causes,
     open_are_open, parents_are_older, parents_are_parents, parts_are_tags, running_causes,

@@ -1,6 +1,6 @@
 -- Only proofs need this: what is known of every legal history of an accepted workload, each part over what it speaks
 -- of.
-use Rattle.std.specs.Prelude.{◌≡◌, ℕ, ◌+◌, ◌*◌, ◌≤◌, List, [], ◌∷◌, length, slice_get, count_by, IsFalse, Option, Some}
+use Rattle.std.specs.Prelude.{◌≡◌, ℕ, ◌+◌, ◌*◌, ◌<◌, ◌≤◌, List, [], ◌∷◌, length, slice_get, count_by, IsFalse, ◌⊎◌, false, Option, Some}
 use Rattle.split_types.specs.declared.ids.ReqId.{ReqId}
 use Rattle.split_types.specs.declared.ids.Serial.{Serial}
 use Rattle.split_types.specs.declared.buf.Buf.TheVariants.{Page}
@@ -13,11 +13,14 @@ use Rattle.split_types.specs.declared.event.Event.TheVariants.{Done}
 use Rattle.split_types.specs.History.{◌▹◌, adds}
 use Rattle.split_types.specs.Hooks.{covers}
 use Rattle.split_types.specs.Requests.{is_numbered, requests, queued, in_flight, unfinished, state_of, sends}
+use Rattle.split_types.specs.Reads.{request_numbered}
 use Rattle.split_types.specs.CostAndClock.{head, cost_of, now, first_of, length_of}
 use Rattle.split_types.specs.FileMaps.{mapped_block}
 use Rattle.split_types.specs.Schedulers.{has_stopped}
 use Rattle.split_types.specs.FilesInOrder.{all_files}
+use Rattle.split_types.specs.Transactions.{is_of_commit}
 use Rattle.split_types.specs.Proving.Runs.{MovesRun}
+use Rattle.split_types.specs.Proving.JournalKnown.{IsJournalRun}
 
 -- the number of completions
 abbrev pub dones : List Event → ℕ
@@ -57,9 +60,14 @@ pub record AreUnmade (count : ℕ) (cost : ℕ → ℕ) (state_at : ℕ → ReqS
   pub cost_none : (id : ℕ) → count ≤ id → cost id ≡ 0
   pub state_none : (id : ℕ) → count ≤ id → state_at id ≡ state.Queued
 
--- each request moves a run
+-- each request that isn't the commit thread's moves a run of pages
 abbrev pub MoveRuns : ℕ → (ℕ → ℕ → Option ℕ) → List Request → Type 0
-MoveRuns total block_of all = (i : ℕ) (r : Request) → slice_get all i ≡ Some r → MovesRun total block_of r
+MoveRuns total block_of all =
+    (i : ℕ) (r : Request) → slice_get all i ≡ Some r → is_of_commit r ≡ false → MovesRun total block_of r
+
+-- a request moves a run of pages, or some of the blocks below those of data where it is the commit thread's
+abbrev pub HasRun : Workload → List Event → Request → Type 0
+HasRun w h r = MovesRun (all_files w h) (mapped_block w h) r ⊎ IsJournalRun w r
 
 -- one unfinished request at most writes a page
 abbrev pub TakeOnce : List Request → Type 0
@@ -68,8 +76,21 @@ TakeOnce left = (s : Serial) (g : ℕ) → count_by (λ r. covers r (Page s g)) 
 -- the numbers stay small
 pub record AreSmall (stands : ℕ) (cost : ℕ → ℕ) (clock done : ℕ) : Type 0 where
   pub head_most : stands ≤ 32768
-  pub cost_most : (id : ℕ) → cost id ≤ 132
-  pub clock_most : clock ≤ 132 * done
+  pub cost_most : (id : ℕ) → cost id ≤ 624
+  pub clock_most : clock ≤ 624 * done
+
+-- what is known of the requests, whatever they move
+pub record KnownRequests (h : List Event) : Type 0 where
+  pub numbered : AreNumbered (requests h) (adds h) (first_of h) (length_of h)
+  pub waiting : AreWaiting (requests h) (queued h) (in_flight h) (unfinished h) (sends h) (dones h)
+  pub unmade : AreUnmade (adds h) (cost_of h) (state_of h)
+  pub rises : RiseTo 0 (queued h) (adds h)
+  -- the request of a number stands at that place; one that isn't unfinished was done well
+  pub named : (id : ReqId) (r : Request) → slice_get (requests h) id.0 ≡ Some r → request_numbered h id ≡ Some r
+  pub finished : (id : ReqId) → id.0 < adds h → count_by (is_numbered id) (unfinished h) ≡ 0
+      → state_of h id.0 ≡ state.Done
+  -- no write was done badly
+  pub going : IsFalse (has_stopped h)
 
 pub record Known (w : Workload) (h : List Event) : Type 0 where
   pub numbered : AreNumbered (requests h) (adds h) (first_of h) (length_of h)

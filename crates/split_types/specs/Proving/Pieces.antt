@@ -1,4 +1,4 @@
--- Only proofs need this: what an accepted workload asks of its calls, and what their pieces are.
+-- Only proofs need this: what the pieces of calls are.
 use Rattle.std.specs.Prelude.{◌≡◌, ℕ, ◌+◌, ◌-◌, ◌<◌, ◌≤◌, List, length, IsTrue}
 use Rattle.split_types.specs.declared.ids.Pid.{Pid}
 use Rattle.split_types.specs.declared.ids.Serial.{Serial}
@@ -6,14 +6,7 @@ use Rattle.split_types.specs.declared.call.Call.{Call}
 use Rattle.split_types.specs.declared.workload.Workload.{Workload}
 use Rattle.split_types.specs.declared.event.Event.{Event}
 use Rattle.split_types.specs.Files.{is_live}
-use Rattle.split_types.specs.IsWorkload.{IsAsked}
-use Rattle.split_types.specs.Accepted.{IsBuiltCall}
 use Rattle.split_types.specs.Pieces.{Piece, first_byte, bytes_to_move, piece_at}
-
--- the call is one that may be asked for, and is built
-pub record IsTaken (c : Call) : Type 0 where
-  pub asked : IsAsked c
-  pub built : IsBuiltCall c
 
 -- the piece is the first that is left of a call that moved so many bytes
 pub record IsFirstLeft (c : Call) (size moved : ℕ) (piece : Piece) : Type 0 where
