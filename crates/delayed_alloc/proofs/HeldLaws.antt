@@ -19,8 +19,8 @@ length-states_of words waits txns = length-map-range_with_len (state_of words wa
 -- the state of a block, within the disk
 pub read_within : (words waits : List ℕ) (txns : List Txn) (block : ℕ) (d : State) → block < length txns
     → get_or (states_of words waits txns) block d ≡ state_of words waits txns block
-read_within words waits txns block d within = get_or-map-range_with_len (state_of words waits txns) 0 (length txns) block block d
-    within (omega arith)
+read_within words waits txns block d within =
+    get_or-map-range_with_len (state_of words waits txns) 0 (length txns) block block d within (omega arith)
 
 -- the state of a block within the disk, and none past its end
 pub found : (words waits : List ℕ) (txns : List Txn) (block : ℕ) → block < length txns

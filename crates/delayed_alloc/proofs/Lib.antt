@@ -1,3 +1,4 @@
 mod BitLaws
 mod HeldLaws
+mod SettleLaws
 mod TurnLaws

@@ -1,115 +1,16 @@
--- What becomes of all blocks when a transaction is settled, when a run is taken, and at the start.
-use Rattle.std.proofs.Common.{◌≡◌, ◌≢◌, ◌⊎◌, ℕ, zero, suc, ◌+◌, ◌-◌, ◌*◌, ◌^◌, ◌<◌, ◌≤◌, Bool, true, false, cond, List, ◌++◌, length, map, replicate, get_or, set, Some, count_by, refl, sym, ap, ◌∙◌, inl, inr, arith, length-set, length-append, get_or-set_same, get_or-set_other}
+-- What becomes of all blocks when a run is taken, and at the start.
+use Rattle.std.proofs.Common.{◌≡◌, ◌≢◌, ◌⊎◌, ℕ, zero, suc, ◌+◌, ◌-◌, ◌*◌, ◌^◌, ◌<◌, ◌≤◌, true, false, cond, List, ◌++◌, length, replicate, get_or, set, Some, count_by, refl, sym, ap, ◌∙◌, inl, inr, arith, length-set, length-append, get_or-set_same, get_or-set_other}
 use Rattle.std.specs.Prelude.{◌==◌, nat_le, nat_lt, ◌&&◌, if◌then◌else◌}
-use Rattle.std.proofs.lemmas.Bool.{cases_eq, cases_lt, false_from_ne_true, ne_eqb}
+use Rattle.std.proofs.lemmas.Bool.{cases_eq, cases_lt, false_from_ne_true}
 use Rattle.std.proofs.lemmas.Bool.Decides.{eqb_tells, nat_tests}
-use Rattle.std.proofs.lemmas.List.{same_lists, ext_get_or, get_or-map, get_or_past, get_or_append_left, get_or-append_right, get_or-replicate, length-map, length-replicate}
+use Rattle.std.proofs.lemmas.List.{same_lists, get_or_past, get_or_append_left, get_or-append_right, get_or-replicate, length-replicate}
 use Rattle.std.proofs.lemmas.List.Sums.{sum_by-append}
 use Rattle.std.proofs.lemmas.List.Folds.{sum_by-replicate}
 use Rattle.split_types.specs.declared.ids.Txn.{Txn}
 use Rattle.delayed_alloc.specs.Bits.{is_set, IsEmptySet}
-use Rattle.delayed_alloc.specs.Blocks.{State, Blocks, Taken, Free, Waiting, is_free, settled, new_blocks, IsLeastRun, TakesRun}
+use Rattle.delayed_alloc.specs.Blocks.{State, Blocks, Taken, Free, is_free, new_blocks, IsLeastRun, TakesRun}
 use Rattle.delayed_alloc.specs.Held.{state_of, states_of, AreHeld}
-use Rattle.delayed_alloc.specs.Settling.{SettlesRun}
-use Rattle.delayed_alloc.proofs.HeldLaws.{length-states_of, read_within, found, none_past, found-state, counted-set, state-waits, states-freed, waiting-within, free-set, set-within}
-
--- where a run is settled and then the next one, both are
-pub settles-joined : (t : Txn) (old mid new : Blocks) (first at end : ℕ) → first ≤ at → at ≤ end
-    → SettlesRun t old mid first at → SettlesRun t mid new at end → SettlesRun t old new first end
-settles-joined t old mid new first at end from to one two =
-    record {
-      blocks = two.blocks ∙ one.blocks;
-      run = λ block low high. elim (cases_lt block at) [
-        | inl before ↦ two.others block (inl before) ∙ one.run block low before
-        | inr after ↦ two.run block after high ∙ ap (settled t) (one.others block (inr after))
-      ];
-      others = λ block outside. elim outside [
-        | inl low ↦ two.others block (inl (omega arith)) ∙ one.others block (inl low)
-        | inr high ↦ two.others block (inr high) ∙ one.others block (inr (omega arith))
-      ];
-      promised = two.promised ∙ one.promised;
-    }
-
--- before the first block
-pub settles-empty : (t : Txn) (a : Blocks) (at : ℕ) → SettlesRun t a a at at
-settles-empty t a at = record {
-  blocks = refl;
-  run = λ block low high. absurd (omega arith);
-  others = λ block outside. refl;
-  promised = refl;
-}
-
--- behind the last block
-pub settles-all : (t : Txn) (old new : Blocks) (end : ℕ) → SettlesRun t old new 0 end → length old.states ≤ end
-    → new ≡ record old { states = map (settled t) old.states }
-settles-all t old new end run enough =
-    let len = length-map old.states (settled t) in
-    let states : new.states ≡ map (settled t) old.states =
-    ext_get_or Taken new.states (map (settled t) old.states) (run.blocks ∙ sym len) (λ k inside.
-    let b = run.blocks in
-    run.run k (omega arith) (omega arith) ∙ sym (get_or-map (settled t) old.states k Taken Taken (omega arith))) in
-    rw (← states, ← run.promised) refl
-
--- a block that doesn't wait for the transaction stays
-state-settled : (words waits : List ℕ) (txns : List Txn) (block : ℕ) (t : Txn)
-    → (is_set waits block ≡ false) ⊎ ((get_or txns block (record { 0 = 0 })).0 ≢ t.0)
-    → settled t (state_of words waits txns block) ≡ state_of words waits txns block
-state-settled words waits txns block t other =
-    go (is_set words block) (is_set waits block) (get_or txns block (record { 0 = 0 })) other where
-      go : (set wait : Bool) (u : Txn) → (wait ≡ false) ⊎ (u.0 ≢ t.0)
-          → settled t (if set then Free else (if wait then Waiting u else Taken))
-          ≡ (if set then Free else (if wait then Waiting u else Taken))
-      go true wait u other = refl
-      go false false u other = refl
-      go false true u (inl off) = absurd (cc)
-      go false true u (inr apart) = rw (ne_eqb u.0 t.0 apart) refl
-
--- where no block of a run waits for the transaction, all stay
-pub settles-none : (words waits : List ℕ) (txns : List Txn) (reserved first end : ℕ) (t : Txn)
-    → ((block : ℕ) → first ≤ block → block < end
-    → (is_set waits block ≡ false) ⊎ ((get_or txns block (record { 0 = 0 })).0 ≢ t.0))
-    → SettlesRun t (record { states = states_of words waits txns; reserved = reserved })
-    (record { states = states_of words waits txns; reserved = reserved }) first end
-settles-none words waits txns reserved first end t other = record {
-  blocks = refl;
-  run = λ block from to. elim (cases_lt block (length txns)) [
-    | inl inside ↦ rw (read_within words waits txns block Taken inside)
-        (sym (state-settled words waits txns block t (other block from to)))
-    | inr past ↦ let len = length-states_of words waits txns in
-        rw (get_or_past (states_of words waits txns) block Taken (omega arith)) refl
-  ];
-  others = λ block outside. refl;
-  promised = refl;
-}
-
--- a block that waits for the transaction becomes free
-pub settles-freed : (words words' waits waits' : List ℕ) (txns : List Txn) (unused reserved block : ℕ) (t : Txn)
-    → AreHeld words waits txns unused reserved → is_set waits block ≡ true
-    → ((k : ℕ) → is_set words' k ≡ (if k == block then true else is_set words k))
-    → ((k : ℕ) → is_set waits' k ≡ (if k == block then false else is_set waits k))
-    → (get_or txns block (record { 0 = 0 })).0 ≡ t.0
-    → SettlesRun t (record { states = states_of words waits txns; reserved = reserved })
-    (record { states = states_of words' waits' txns; reserved = reserved }) block (block + 1)
-settles-freed words words' waits waits' txns unused reserved block t held waiting bits waits_bits same =
-    let old = states_of words waits txns in
-    let within = waiting-within words waits txns unused reserved block held waiting in
-    let len = length-states_of words waits txns in
-    let room : block < length old = omega arith in
-    let was : get_or old block Taken ≡ Waiting (get_or txns block (record { 0 = 0 })) =
-    read_within words waits txns block Taken within
-    ∙ state-waits words words' waits waits' txns unused reserved block held waiting bits waits_bits in
-    let free : settled t (get_or old block Taken) ≡ Free = rw was (rw same (grind (arith, nat_tests))) in
-    rw (states-freed words words' waits waits' txns unused reserved block held waiting bits waits_bits) (record {
-      blocks = length-set old block Free;
-      run = λ k from to.
-          let here : k ≡ block = omega arith in
-          rw here (get_or-set_same old block Free Taken room ∙ sym free);
-      others = λ k outside. get_or-set_other old block k Free Taken (elim outside [
-        | inl low ↦ omega (arith, low)
-        | inr high ↦ omega (arith, high)
-      ]);
-      promised = refl;
-    })
+use Rattle.delayed_alloc.proofs.HeldLaws.{length-states_of, read_within, found, none_past, found-state, counted-set, free-set, set-within}
 
 -- the free blocks that a run takes
 count-run : (old new : List State) (first m : ℕ) → length new ≡ length old → first + m ≤ length old
@@ -153,7 +54,8 @@ run-set words waits txns unused reserved n first m held run b from to =
 -- the least run is within the disk
 pub run-within : (words waits : List ℕ) (txns : List Txn) (unused reserved n first m : ℕ)
     → AreHeld words waits txns unused reserved
-    → IsLeastRun (record { states = states_of words waits txns; reserved = reserved }) n first m → first + m ≤ length txns
+    → IsLeastRun (record { states = states_of words waits txns; reserved = reserved }) n first m
+    → first + m ≤ length txns
 run-within words waits txns unused reserved n first m held run =
     let some = run.some in
     let last = set-within words waits txns unused reserved (first + (m - 1)) held
@@ -196,7 +98,8 @@ module _ (words words' waits : List ℕ) (txns : List Txn) (unused reserved n fi
   fewer =
       let old_len = length-states_of words waits txns in
       let new_len = length-states_of words' waits txns in
-      count-run (states_of words waits txns) (states_of words' waits txns) first m (new_len ∙ sym old_len) (let w = within in
+      count-run (states_of words waits txns) (states_of words' waits txns) first m (new_len ∙ sym old_len)
+      (let w = within in
       omega arith)
       (λ i d lower. let w = within in
       read_within words waits txns (first + i) d (omega arith)
@@ -204,7 +107,8 @@ module _ (words words' waits : List ℕ) (txns : List Txn) (unused reserved n fi
       (λ i d lower. let w = within in read_within words' waits txns (first + i) d (omega arith)
       ∙ taken (first + i) (omega arith) (omega arith))
       (λ k d outside. elim (cases_lt k (length txns)) [
-        | inl inside ↦ read_within words' waits txns k d inside ∙ stays k outside ∙ sym (read_within words waits txns k d inside)
+        | inl inside ↦ read_within words' waits txns k d inside ∙ stays k outside
+            ∙ sym (read_within words waits txns k d inside)
         | inr past ↦ get_or_past (states_of words' waits txns) k d (omega arith)
             ∙ sym (get_or_past (states_of words waits txns) k d (omega arith))
       ])

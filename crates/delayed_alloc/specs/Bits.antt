@@ -1,5 +1,5 @@
 -- Sets of numbers as bits of words of 64, with a bit on top for each word.
-use Rattle.std.specs.Prelude.{◌≡◌, ℕ, ◌<◌, ◌/◌, ◌%◌, ◌*◌, ◌^◌, ◌==◌, Bool, true, false, List, nat_lt, slice_index, slice_set, bit_and, bit_or}
+use Rattle.std.specs.Prelude.{◌≡◌, ℕ, ◌<◌, ◌≤◌, ◌/◌, ◌%◌, ◌*◌, ◌^◌, ◌==◌, Bool, true, false, List, nat_lt, slice_index, slice_set, bit_and, bit_or}
 use Rattle.std.specs.Int.{bit_at, bit_not, w64}
 
 -- the number is in the set
@@ -14,6 +14,12 @@ AreTops words tops = (k : ℕ) → is_set tops k ≡ nat_lt 0 (slice_index words
 pub record IsFirstSet (words : List ℕ) (i : ℕ) : Type 0 where
   pub set : is_set words i ≡ true
   pub least : (k : ℕ) → k < i → is_set words k ≡ false
+
+-- the least number of the set from one on
+pub record IsNextSet (words : List ℕ) (from i : ℕ) : Type 0 where
+  pub set : is_set words i ≡ true
+  pub low : from ≤ i
+  pub least : (k : ℕ) → from ≤ k → k < i → is_set words k ≡ false
 
 -- the set is empty
 abbrev pub IsEmptySet : List ℕ → Type 0

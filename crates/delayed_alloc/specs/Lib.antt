@@ -1,4 +1,5 @@
 pub mod Bits
 pub mod Blocks
 pub mod Held
+pub mod Marks
 pub mod Settling

@@ -1,10 +1,13 @@
 //! Which blocks are taken, free or waiting, and how many free ones are promised.
-ghost use Rattle.std.specs.Prelude.{◌≡◌, ◌+◌, ◌-◌, ◌*◌, ◌^◌, ◌<◌, ◌≤◌, ◌↔◌, length, map, slice_set, Some, IfOk, IsTrue};
+ghost use Rattle.std.specs.Prelude.{◌≡◌, true, ◌+◌, ◌-◌, ◌*◌, ◌^◌, ◌<◌, ◌≤◌, ◌↔◌, length, map, slice_set, Some, IfOk, IsTrue};
 ghost use Rattle.std.specs.Bool.{OnTrue, OnFalse};
 ghost use Rattle.delayed_alloc.specs.Blocks.{Taken, Waiting, state_at, free_count, new_blocks, IsLeastRun, TakesRun, settled};
-ghost use Rattle.delayed_alloc.specs.Settling.{SettlesRun};
+ghost use Rattle.delayed_alloc.specs.Settling.{SettlesRun, waits_at};
+ghost use Rattle.delayed_alloc.specs.Held.{states_of};
+ghost use Rattle.delayed_alloc.specs.Marks.{AreMarked, AllMarked, KeepsMarks};
 
-use crate::block_set::BlockSet;
+use crate::block_set::{BlockSet, bits_from, lowest_bit};
+use crate::txn_marks::TxnMarks;
 use split_types::Txn;
 use std::alloc::{AllocError, Global};
 use std::marker::Model;
@@ -13,14 +16,17 @@ use std::marker::Model;
 const FIRST: u32 = 526;
 
 /// The blocks of a disk: each is taken, free, or waits for a transaction; some free ones are promised.
-/// Where a block waits, `txns` has its transaction.
+/// Where a block waits, `txns` has its transaction, and `marks` that transaction's mark: a settling of one without
+/// its mark passes no block.
 #[derive(Debug, Drop)]
 pub struct Alloc {
     free: BlockSet,
     waiting: BlockSet,
     txns: Vec<Txn>,
+    marks: TxnMarks,
     unused: u32,
     reserved: u32,
+    ghost marked: { AllMarked (states_of free.words.items waiting.words.items txns.items) marks.bits },
 }
 
 impl Model for Alloc {
@@ -30,7 +36,10 @@ impl Model for Alloc {
 
     ghost use Rattle.delayed_alloc.specs.Held.{states_of, AreHeld};
 
-    ghost view = { λ a. record { states = states_of a.free.words.items a.waiting.words.items a.txns.items; reserved = a.reserved } };
+    ghost view = { λ a. record {
+      states = states_of a.free.words.items a.waiting.words.items a.txns.items;
+      reserved = a.reserved;
+    } };
 
     ghost invariant = { λ a. AreHeld a.free.words.items a.waiting.words.items a.txns.items a.unused a.reserved };
 }
@@ -50,6 +59,7 @@ impl Alloc {
             free,
             waiting: BlockSet::new(alloc, device as usize)?,
             txns: vec![in alloc; Txn(0); device as usize]?,
+            marks: TxnMarks::new(),
             unused: device - FIRST - used,
             reserved: 0,
         })
@@ -116,37 +126,56 @@ impl Alloc {
     {
         self.waiting.insert(block as usize);
         self.txns[block as usize] = t;
+        self.marks.add(t);
     }
 
     /// The blocks that wait for a transaction are free.
     pub fn settle(&mut self, t: Txn)
         ensures { self.new ≡ record self.old { states = map (settled t) self.old.states } }
     {
-        for at in 0..self.waiting.word_count() {
-            if self.waiting.has_any(at) {
-                self.settle_word(at, t);
-            }
+        if !self.marks.has(t) {
+            return;
         }
+        let mut marks = TxnMarks::new();
+        let mut from = 0;
+        while let Some(at) = self.waiting.next_word(from) {
+            self.settle_word(at, t, &mut marks);
+            from = at + 1;
+        }
+        self.marks = marks;
     }
 
-    /// Frees the blocks of one word that wait for a transaction.
-    fn settle_word(&mut self, at: usize, t: Txn)
+    /// Frees the blocks of one word that wait for a transaction, and marks those that the others wait for.
+    fn settle_word(&mut self, at: usize, t: Txn, marks: &mut TxnMarks)
         requires { at < 2 ^ 32 }
-        ensures { SettlesRun t self.old self.new (64 * at) (64 * at + 64) }
+        ensures settled { SettlesRun t self.old self.new (64 * at) (64 * at + 64) }
+        ensures marked { AreMarked self.new.states marks.new.bits (64 * at) (64 * at + 64) }
+        ensures kept { KeepsMarks marks.old.bits marks.new.bits }
     {
-        for bit in 0..64 {
-            self.settle_block(64 * at + bit, t);
+        let mut block = 64 * at;
+        let mut rest = self.waiting.word(at);
+        while rest != 0 {
+            let zeros = lowest_bit(rest);
+            self.settle_block(block + zeros, t, marks);
+            block += zeros + 1;
+            rest = bits_from(rest, zeros) / 2;
         }
     }
 
-    /// Frees a block if it waits for a transaction.
-    fn settle_block(&mut self, block: usize, t: Txn)
-        ensures { SettlesRun t self.old self.new block (block + 1) }
+    /// Frees a block that waits if it waits for a transaction, and else marks the one that it waits for.
+    fn settle_block(&mut self, block: usize, t: Txn, marks: &mut TxnMarks)
+        requires { waits_at self.old block ≡ true }
+        ensures settled { SettlesRun t self.old self.new block (block + 1) }
+        ensures marked { AreMarked self.new.states marks.new.bits block (block + 1) }
+        ensures kept { KeepsMarks marks.old.bits marks.new.bits }
     {
-        if self.waiting.contains(block) && self.txns[block].0 == t.0 {
-            self.waiting.remove(block);
-            self.free.insert(block);
-            self.unused += 1;
+        let waits_for = self.txns[block];
+        if waits_for.0 != t.0 {
+            marks.add(waits_for);
+            return;
         }
+        self.waiting.remove(block);
+        self.free.insert(block);
+        self.unused += 1;
     }
 }

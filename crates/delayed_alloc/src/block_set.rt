@@ -1,8 +1,7 @@
 //! Sets of blocks.
-ghost use Rattle.std.specs.Prelude.{◌≡◌, ◌⊎◌, ℕ, ◌+◌, ◌*◌, ◌<◌, ◌≤◌, ◌^◌, ◌==◌, Bool, true, false, if◌then◌else◌, length, replicate, vec_len, IfOk, IfNone, IfSome};
-ghost use Rattle.std.specs.Bool.{OnFalse};
-ghost use Rattle.std.specs.Int.{trailing_zeros, w64};
-ghost use Rattle.delayed_alloc.specs.Bits.{is_set, with_bit, without_bit, AreTops, IsFirstSet, IsEmptySet};
+ghost use Rattle.std.specs.Prelude.{◌≡◌, ◌⊎◌, ℕ, ◌+◌, ◌*◌, ◌/◌, ◌<◌, ◌≤◌, ◌^◌, ◌==◌, Bool, true, false, if◌then◌else◌, length, replicate, vec_len, IfOk, IfNone, IfSome};
+ghost use Rattle.std.specs.Int.{bit_at, trailing_zeros, w64};
+ghost use Rattle.delayed_alloc.specs.Bits.{is_set, with_bit, without_bit, AreTops, IsFirstSet, IsNextSet, IsEmptySet};
 
 use std::alloc::{AllocError, Global};
 
@@ -39,7 +38,7 @@ fn clear_bit(words: &mut Vec<u64>, at: usize)
 }
 
 /// The place of the lowest bit of a word that isn't 0.
-fn lowest_bit(word: u64) -> usize
+pub(crate) fn lowest_bit(word: u64) -> usize
     ensures place { result ≡ trailing_zeros w64 word }
     ensures within { result ≤ 64 }
     ensures fits { word < 2 ^ 64 }
@@ -47,15 +46,44 @@ fn lowest_bit(word: u64) -> usize
     word.trailing_zeros() as usize
 }
 
-/// The least number in the set of these words; `None` exactly where the set is empty.
-fn first_bit(words: &[u64]) -> Option<usize>
-    requires { length words.now < 2 ^ 32 }
-    ensures none { IfNone result (IsEmptySet words.now) }
-    ensures first { IfSome result (IsFirstSet words.now) }
+/// The bits of a word from a place on.
+pub(crate) fn bits_from(word: u64, place: usize) -> u64
+    requires { place < 64 }
+    ensures value { result ≡ word / 2 ^ place }
+    ensures fits { word < 2 ^ 64 }
 {
-    for (at, word) in words.iter().enumerate() {
-        if *word != 0 {
-            return Some(64 * at + lowest_bit(*word));
+    word >> place
+}
+
+/// The least number from one on in the set of these words, if it is in the same word.
+fn next_in_word(words: &[u64], from: usize) -> Option<usize>
+    requires { length words.now < 2 ^ 32 }
+    ensures none { IfNone result ((k : ℕ) → from ≤ k → k < 64 * (from / 64) + 64 → is_set words.now k ≡ false) }
+    ensures next { IfSome result (IsNextSet words.now from) }
+{
+    if from / 64 >= words.len() {
+        return None;
+    }
+    let rest = bits_from(words[from / 64], from % 64);
+    if rest == 0 {
+        return None;
+    }
+    Some(from + lowest_bit(rest))
+}
+
+/// The least number from one on in the set of these words; `None` exactly where there is none.
+fn next_bit(words: &[u64], from: usize) -> Option<usize>
+    requires { length words.now < 2 ^ 32 }
+    ensures none { IfNone result ((k : ℕ) → from ≤ k → is_set words.now k ≡ false) }
+    ensures next { IfSome result (IsNextSet words.now from) }
+{
+    if let Some(bit) = next_in_word(words, from) {
+        return Some(bit);
+    }
+    for at in from / 64 + 1..words.len() {
+        let word = words[at];
+        if word != 0 {
+            return Some(64 * at + lowest_bit(word));
         }
     }
     None
@@ -106,19 +134,27 @@ impl BlockSet {
         }
     }
 
-    /// How many words of 64 blocks there are.
-    pub(crate) fn word_count(&self) -> usize
-        ensures { result ≡ vec_len self.now.words }
+    /// A word of 64 blocks; 0 past the last.
+    pub(crate) fn word(&self, at: usize) -> u64
+        ensures bits { (k : ℕ) → k < 64 → is_set self.now.words.items (64 * at + k) ≡ (bit_at result k == 1) }
+        ensures fits { result < 2 ^ 64 }
     {
-        self.words.len()
+        if at < self.words.len() {
+            self.words[at]
+        } else {
+            0
+        }
     }
 
-    /// Whether a word has a block of the set.
-    pub(crate) fn has_any(&self, at: usize) -> bool
-        ensures none { OnFalse result ((b : ℕ) → 64 * at ≤ b → b < 64 * at + 64
+    /// The first word from one on that has a block of the set; `None` exactly where there is none.
+    pub(crate) fn next_word(&self, from: usize) -> Option<usize>
+        ensures none { IfNone result ((b : ℕ) → 64 * from ≤ b → is_set self.now.words.items b ≡ false) }
+        ensures from { IfSome result (λ at. from ≤ at) }
+        ensures few { IfSome result (λ at. at < 2 ^ 32) }
+        ensures passed { IfSome result (λ at. (b : ℕ) → 64 * from ≤ b → b < 64 * at
             → is_set self.now.words.items b ≡ false) }
     {
-        at < self.words.len() && self.words[at] != 0
+        next_bit(&self.tops, from)
     }
 
     /// Takes a run of blocks out.
@@ -140,7 +176,7 @@ impl BlockSet {
         ensures none { IfNone result (IsEmptySet self.now.words.items) }
         ensures first { IfSome result (IsFirstSet self.now.words.items) }
     {
-        let at = first_bit(&self.tops)?;
+        let at = next_bit(&self.tops, 0)?;
         Some(64 * at + lowest_bit(self.words[at]))
     }
 

@@ -15,5 +15,6 @@
 
 mod alloc;
 mod block_set;
+mod txn_marks;
 
 pub use alloc::Alloc;

@@ -1,6 +1,7 @@
 use Rattle.std.proofs.Common.{◌≡◌, ◌+◌, ◌-◌, ◌*◌, ◌^◌, ◌<◌, ◌≤◌, ℕ, length, arith, ◌∙◌, ap}
 use Rattle.std.specs.Prelude.{nat_le, nat_lt, ◌&&◌}
 use Rattle.delayed_alloc.specs.Bits.{is_set}
+use Rattle.delayed_alloc.proofs.SettleLaws.{marked-none}
 use Rattle.delayed_alloc.proofs.TurnLaws.{range-more, held-started, states-started}
 use Rattle.delayed_alloc.proofs.alloc.Alloc.new.Goals as goal
 
@@ -12,7 +13,14 @@ loop-block-preserved c = record {
 }
 
 pub invariant_of-result : goal.invariant_of-result
-invariant_of-result c =
+invariant_of-result c = (
+  marked-none c.loop-block.free.words.items c.in_ok-new.field-0.words.items c.in_ok-vec.field-0.items _
+      c.in_ok-new.ensures.empty,
+  tt,
+)
+
+pub invariant_of-result-2 : goal.invariant_of-result-2
+invariant_of-result-2 c =
     let words = c.loop-block.free.words in
     let device = c.args.device in
     let end : c.loop-block.block ≡ device = omega (
@@ -34,7 +42,8 @@ invariant_of-result c =
     let waits = c.in_ok-new.field-0.words in
     let waits_room : device ≤ 64 * length waits.items = omega (arith, waits.ok.0, c.in_ok-new.ensures.room) in
     rw (c.in_ok-vec.ensures.items_if_clones_equal (λ y same. same), unused)
-    (held-started words.items c.in_ok-new.field-0.words.items device (526 + c.args.used) c.requires few room waits_room bits c.in_ok-new.ensures.empty)
+    (held-started words.items waits.items device (526 + c.args.used) c.requires few room waits_room bits
+    c.in_ok-new.ensures.empty)
 
 pub returns : goal.returns
 returns c =
@@ -48,4 +57,6 @@ returns c =
     ) in
     let bits : (k : ℕ) → is_set words.items k ≡ (nat_le (526 + c.args.used) k && nat_lt k device) =
     λ k. c.loop-block.invariant.bits k ∙ ap (λ b. nat_le (526 + c.args.used) k && nat_lt k b) end in
-    rw (c.in_ok-vec.ensures.items_if_clones_equal (λ y same. same)) (states-started words.items c.in_ok-new.field-0.words.items device (526 + c.args.used) c.requires bits c.in_ok-new.ensures.empty)
+    rw (c.in_ok-vec.ensures.items_if_clones_equal (λ y same. same))
+    (states-started words.items c.in_ok-new.field-0.words.items device (526 + c.args.used) c.requires bits
+    c.in_ok-new.ensures.empty)
