@@ -1,10 +1,11 @@
 -- How what a process sees has to do with what decides its next event.
-use Rattle.std.specs.Prelude.{◌≡◌, false, sum, slice_range, Option, Some, None, is_some, IsSomeAnd, IfSome}
+use Rattle.std.specs.Prelude.{◌≡◌, ℕ, List, false, sum, slice_range, Option, Some, None, is_some, IsSomeAnd, IfSome}
 use Rattle.split_types.specs.declared.ids.Pid.{Pid}
 use Rattle.split_types.specs.declared.ids.Serial.{Serial}
 use Rattle.split_types.specs.declared.buf.Buf.{Buf}
 use Rattle.split_types.specs.declared.buf.Buf.TheVariants.{Page}
 use Rattle.split_types.specs.declared.call.Call.{Call}
+use Rattle.split_types.specs.declared.call.Call.TheVariants.{Fsync}
 use Rattle.split_types.specs.declared.event.Event.{Event}
 use Rattle.split_types.specs.LiveFiles.{free_slot}
 use Rattle.split_types.specs.Pieces.{Piece}
@@ -59,6 +60,9 @@ pub record Shows (p : Pid) (v : View) (s : ClientState) : Type 0 where
   pub may_admit : s.may_admit ≡ v.may_admit
   pub admitted : s.admitted ≡ v.progress.admitted
   pub acted : s.acted ≡ v.progress.acted
+  -- what an fsync waits for counts in an fsync alone
+  pub flushable : (name : List ℕ) → v.progress.call ≡ Some (Fsync name) → s.flushable ≡ v.flushable
+  pub committed : (name : List ℕ) → v.progress.call ≡ Some (Fsync name) → s.committed ≡ v.committed
   pub name_taken : s.name_taken ≡ is_name_taken v.files.slots v.progress.call
   pub free_slot : s.free_slot ≡ free_slot v.files.slots
   pub new_serial : s.new_serial ≡ record { 0 = v.files.next }

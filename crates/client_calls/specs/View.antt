@@ -10,7 +10,8 @@ use Rattle.client_calls.specs.declared.progress.Progress.{Progress}
 
 -- the cache; how many pages may be held; how many processes there are; the live files; the blocks of the disk; the run
 -- that writeback has mapped and not added, if there is one; how far the process has come; whether the scheduler lets its
--- call in; the number of requests so far
+-- call in; of an fsync, whether what was put in its file is on the disk, and whether the file's last change is committed;
+-- the number of requests so far
 pub record View : Type 0 where
   pub cache : Cached
   pub places : ℕ
@@ -20,6 +21,8 @@ pub record View : Type 0 where
   pub mapped : Option Run
   pub progress : Progress
   pub may_admit : Bool
+  pub flushable : Bool
+  pub committed : Bool
   pub next_id : ReqId
 
 -- all pages of the cache but one for each process, or more, are dirty or busy

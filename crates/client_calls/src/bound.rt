@@ -1,6 +1,7 @@
 //! What comes next in a call that works on a file.
-ghost use Rattle.std.specs.Prelude.{◌≡◌};
-ghost use Rattle.split_types.specs.Clients.{ClientState, next_of_write, next_of_fitting, next_of_read, next_on_file, next_of_bound};
+ghost use Rattle.std.specs.Prelude.{◌≡◌, ℕ, List, Some};
+ghost use Rattle.split_types.specs.declared.call.Call.TheVariants.{Fsync};
+ghost use Rattle.split_types.specs.Clients.{ClientState, next_of_write, next_of_fitting, next_of_read, next_of_fsync, next_on_file, next_of_bound};
 ghost use Rattle.client_calls.specs.CallFile.{IsBound};
 ghost use Rattle.client_calls.specs.Shows.{Shows};
 
@@ -75,6 +76,21 @@ fn next_of_read<S: TagStore>(p: Pid, v: &ClientView<'_, S>, file: WorkingFile) -
     }
 }
 
+/// In an fsync whose file is there: it is flushed once all that was put in the file before it was admitted is on the
+/// disk, and returns once the last change of the file before that is committed.
+fn next_of_fsync<S: TagStore>(p: Pid, v: &ClientView<'_, S>) -> Option<Event>
+    requires { (name : List ℕ) × v.now.progress.call ≡ Some (Fsync name) }
+    ensures { (s : ClientState) → Shows p v.now s → result ≡ next_of_fsync s }
+{
+    if !v.progress.acted {
+        return v.flushable.then_some(Event::Flushed { by: p });
+    }
+    v.committed.then_some(Event::Ret {
+        by: p,
+        reply: Reply::Done,
+    })
+}
+
 /// In an admitted call whose file is there.
 fn next_on_file<S: TagStore>(
     p: Pid,
@@ -82,7 +98,8 @@ fn next_on_file<S: TagStore>(
     call: &Call,
     file: WorkingFile,
 ) -> Option<Event>
-    requires { IsBound v.now.files.slots v.now.progress.bound file }
+    requires call { v.now.progress.call ≡ Some call.now }
+    requires file { IsBound v.now.files.slots v.now.progress.bound file }
     ensures { (s : ClientState) → Shows p v.now s → result ≡ next_on_file s call.now file.serial }
 {
     match *call {
@@ -95,7 +112,8 @@ fn next_on_file<S: TagStore>(
             slot: file.slot,
             serial: file.serial,
         }),
-        Call::Creat { .. } | Call::Fsync { .. } => None,
+        Call::Fsync { .. } => next_of_fsync(p, v),
+        Call::Creat { .. } => None,
     }
 }
 
@@ -105,6 +123,7 @@ pub(crate) fn next_of_bound<S: TagStore>(
     v: &ClientView<'_, S>,
     call: &Call,
 ) -> Option<Event>
+    requires { v.now.progress.call ≡ Some call.now }
     ensures { (s : ClientState) → Shows p v.now s → result ≡ next_of_bound s call.now }
 {
     match v.working_file() {

@@ -1,9 +1,8 @@
-//! What comes next in a call that makes or drops a file.
+//! What comes next in a call that makes a file.
 ghost use Rattle.std.specs.Prelude.{◌≡◌, Some};
-ghost use Rattle.split_types.specs.Clients.{ClientState, next_of_creat, next_of_unlink};
+ghost use Rattle.split_types.specs.Clients.{ClientState, next_of_creat};
 ghost use Rattle.client_calls.specs.Shows.{Shows};
 
-use crate::bound::next_of_bound;
 use crate::view::ClientView;
 use cause_set::TagStore;
 use split_types::{Call, Event, Name, Pid, Reply};
@@ -40,21 +39,4 @@ pub(crate) fn next_of_creat<S: TagStore>(
             reply: Reply::NoSlot,
         }),
     }
-}
-
-/// In an admitted unlink: its file is dropped.
-pub(crate) fn next_of_unlink<S: TagStore>(
-    p: Pid,
-    v: &ClientView<'_, S>,
-    call: &Call,
-) -> Option<Event>
-    ensures { (s : ClientState) → Shows p v.now s → result ≡ next_of_unlink s call.now }
-{
-    if !v.progress.acted {
-        return next_of_bound(p, v, call);
-    }
-    Some(Event::Ret {
-        by: p,
-        reply: Reply::Done,
-    })
 }

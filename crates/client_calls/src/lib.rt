@@ -9,12 +9,14 @@
 //! size of any file is refused before its first piece. It ends early, with the bytes that it has put, at a page that has
 //! no block where all free blocks are promised; a dirty page without a block has one promised to it. It waits at a page
 //! of the run that writeback has mapped, until the request for that run is added. What is read of a page without a block
-//! is zeros. An fsync has no event of its own here: where its file is there, it waits once it is admitted.
+//! is zeros. An fsync is flushed once all that was put in its file before it was admitted is on the disk, and returns once
+//! the last change of the file before that is committed.
 //!
 //! Contracts are about the record by which `split_types` defines the next event of a client: where a view shows such a
-//! record, field by field, the answer is the event of that definition. No history is seen here. Three fields are shown
+//! record, field by field, the answer is the event of that definition. No history is seen here. Five fields are shown
 //! only as far as the rows read them: the sum of the bytes where those of the page are there, the page that is evicted
-//! next where the cache says which one that is, and the slot of the file where the file is there.
+//! next where the cache says which one that is, the slot of the file where the file is there, and what an fsync waits for
+//! in an fsync.
 //!
 //! No more is asked than the row needs: bytes are summed only where they are got, the page to evict is looked for only
 //! where the cache is full and the page isn't held, and the block of a page only where a block is wanting or the page is

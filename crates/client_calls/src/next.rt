@@ -4,10 +4,10 @@ ghost use Rattle.split_types.specs.Clients.{ClientState, next_of_client};
 ghost use Rattle.client_calls.specs.Shows.{Shows, answer_of};
 
 use crate::bound::next_of_bound;
-use crate::files::{next_of_creat, next_of_unlink};
+use crate::files::next_of_creat;
 use crate::view::ClientView;
 use cause_set::TagStore;
-use split_types::{Call, Event, Pid};
+use split_types::{Call, Event, Pid, Reply};
 
 /// What a process does next.
 #[derive(Clone, Copy, Debug, PartialEq, Eq)]
@@ -35,7 +35,10 @@ pub fn next_event<S: TagStore>(p: Pid, v: &ClientView<'_, S>) -> Option<Event>
         Some(_) if !progress.admitted && v.may_admit => Some(Event::Admit { by: p }),
         Some(_) if !progress.admitted => None,
         Some(Call::Creat { name }) => next_of_creat(p, v, name),
-        Some(call @ Call::Unlink { .. }) => next_of_unlink(p, v, call),
+        Some(Call::Unlink { .. }) if progress.acted => Some(Event::Ret {
+            by: p,
+            reply: Reply::Done,
+        }),
         Some(call) => next_of_bound(p, v, call),
     }
 }

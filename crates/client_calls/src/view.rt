@@ -37,6 +37,10 @@ pub struct ClientView<'a, S: TagStore> {
     pub progress: Progress,
     /// Whether the scheduler lets its call in.
     pub may_admit: bool,
+    /// Of an fsync, whether all that was put in its file before it was admitted is on the disk.
+    pub flushable: bool,
+    /// Of an fsync, whether the last change of its file before it was flushed is committed, or there is none.
+    pub committed: bool,
     /// The number of requests so far, which is that of the next one.
     pub next_id: ReqId,
 }
@@ -55,6 +59,8 @@ impl<'a, S: TagStore> Model for ClientView<'a, S> {
       mapped = v.mapped;
       progress = v.progress;
       may_admit = v.may_admit;
+      flushable = v.flushable;
+      committed = v.committed;
       next_id = v.next_id;
     } };
 }
