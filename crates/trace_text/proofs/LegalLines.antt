@@ -1,5 +1,5 @@
 -- The events of a legal history have lines.
-use Rattle.std.proofs.Common.{◌≡◌, ℕ, ◌+◌, ◌-◌, ◌*◌, ◌==◌, ◌<◌, ◌≤◌, ◌^◌, ◌∙◌, ◌&&◌, ◌||◌, max, nat_le, nat_lt, Bool}
+use Rattle.std.proofs.Common.{◌≡◌, ℕ, ◌+◌, ◌-◌, ◌*◌, ◌==◌, ◌<◌, ◌≤◌, ◌^◌, ◌∙◌, ◌&&◌, ◌||◌, max, nat_le, nat_lt, Bool, inl, inr}
 use Rattle.std.proofs.Common.{true, false, List, [], ◌∷◌, length, slice_get, Option, Some, IsTrue, ap, refl, sym, subst}
 use Rattle.std.proofs.Common.{arith, if◌then◌else◌}
 use Rattle.std.proofs.lemmas.Bool.{lt-ltb, eq-eqb}
@@ -17,13 +17,16 @@ use Rattle.split_types.specs.declared.request.Run.{Run}
 use Rattle.split_types.specs.declared.request.Service.TheVariants.{Serving}
 use Rattle.split_types.specs.declared.workload.Workload.{Workload}
 use Rattle.split_types.specs.declared.event.Event.{Event}
-use Rattle.split_types.specs.declared.event.Event.TheVariants.{Make, Put, Serve}
+use Rattle.split_types.specs.declared.event.Event.TheVariants.{Make, Put, Serve, Seal, Add}
+use Rattle.split_types.specs.declared.request.ReqKind.{ReqKind}
+use Rattle.split_types.specs.declared.request.ReqKind.TheVariants as kind
+use Rattle.split_types.specs.declared.actor.Actor.TheVariants.{Cm}
 use Rattle.split_types.specs.History.{◌▹◌, adds}
 use Rattle.split_types.specs.Hooks.{maker}
 use Rattle.split_types.specs.IsWorkload.{most_processes}
 use Rattle.split_types.specs.Workloads.{calls_of}
 use Rattle.split_types.specs.Calls.{returned, moved}
-use Rattle.split_types.specs.EventText.{flag}
+use Rattle.split_types.specs.EventText.{flag, subject}
 use Rattle.split_types.specs.Files.{is_live, bound_file}
 use Rattle.split_types.specs.FileMaps.{mapped_block, makes, free_blocks}
 use Rattle.split_types.specs.FileSizes.{disk_size_of}
@@ -32,25 +35,30 @@ use Rattle.split_types.specs.FilesInOrder.{all_files}
 use Rattle.split_types.specs.MapsInOrder.{IsServed}
 use Rattle.split_types.specs.PageBytes.{sum_of_bytes}
 use Rattle.split_types.specs.Pieces.{Piece, got}
-use Rattle.split_types.specs.Requests.{in_flight}
+use Rattle.split_types.specs.Requests.{in_flight, requests}
+use Rattle.split_types.specs.Rounds.{seals, next_txn}
+use Rattle.split_types.specs.Transactions.{marked_buffers, is_of_commit}
+use Rattle.split_types.specs.Proving.JournalKnown.{IsOfSealed}
 use Rattle.split_types.specs.Victims.{victim}
 use Rattle.split_types.specs.CostAndClock.{head, cost_at, distance}
 use Rattle.split_types.specs.Writeback.{service, served_run}
 use Rattle.split_types.specs.Serving.{service_state, bytes_up_to, map_of}
 use Rattle.split_types.specs.Accepted.{IsAccepted}
 use Rattle.split_types.specs.Legal.{IsLegal}
-use Rattle.split_types.specs.Proving.Came.{Came, HasCall, IsAtPiece}
+use Rattle.split_types.specs.Proving.Came.{Came, HasCall, IsAtPiece, Journals, journal_request}
 use Rattle.split_types.specs.Proving.Came.Came.{came_enter, came_admit, came_changed, came_exists, came_no_slot, came_make}
 use Rattle.split_types.specs.Proving.Came.Came.{came_drop, came_no_file, came_too_big, came_wrote, came_read, came_fault}
 use Rattle.split_types.specs.Proving.Came.Came.{came_no_space, came_put, came_get, came_zeros, came_evict, came_load}
 use Rattle.split_types.specs.Proving.Came.Came.{came_serve, came_skip, came_map, came_grow, came_add, came_send, came_done}
+use Rattle.split_types.specs.Proving.Came.Came.{came_seal, came_journal, came_flushed, came_synced}
 use Rattle.split_types.specs.Proving.Known.{Known}
 use Rattle.split_types.proofs.Shared.{came, known, maps_known, files_are_in_order, queued_of, flight_of}
 use Rattle.split_types.proofs.Shared.{calls_most, short, adds_most, put_in, live_of, free_is, moved_most}
-use Rattle.split_types.proofs.Shared.{seek_most, picks_first}
+use Rattle.split_types.proofs.Shared.{seek_most, picked_there, has_run, longest, ends_within, journal_known}
+use Rattle.split_types.proofs.Shared.{slice_get-push_new}
 use Rattle.split_types.proofs.Shared.{sum_most, got_most, size_most, disk_size_most, get_in, victim_file}
 use Rattle.workload_reader.specs.Table.{IsOneOf}
-use Rattle.trace_text.specs.EventLines.{is_small, is_wide, AreInRange}
+use Rattle.trace_text.specs.EventLines.{is_small, is_wide, AreInRange, IsAskedBy}
 use Rattle.trace_text.specs.ReadsEvent.{HasLine}
 use Rattle.trace_text.specs.Events.{HaveLines}
 
@@ -78,6 +86,12 @@ makes_most : (h : List Event) → makes h ≤ length h
 makes_most [] = omega arith
 makes_most (h ▹ Make by slot serial) = omega (arith, makes_most h)
 makes_most (h ▹ e) = omega (arith, makes_most h)
+
+-- each seal is an event
+seals_most : (h : List Event) → seals h ≤ length h
+seals_most [] = omega arith
+seals_most (h ▹ Seal t k) = omega (arith, seals_most h)
+seals_most (h ▹ e) = omega (arith, seals_most h)
 
 -- so there were few
 few_files : (w : Workload) (h : List Event) → IsAccepted w → IsLegal w h → all_files w h < 2 ^ 32
@@ -255,7 +269,7 @@ add_line w h run block accepted legal serves at =
       wide = refl;
     }
 
-send_line : (w : Workload) (h : List Event) (r : Request) → IsAccepted w → IsLegal w h → r.id.0 < adds h → r.n ≤ 16
+send_line : (w : Workload) (h : List Event) (r : Request) → IsAccepted w → IsLegal w h → r.id.0 < adds h → r.n ≤ 262
     → AreInRange (r.id.0 ∷ []) (cost_at (head h) r.first r.n ∷ [])
 send_line w h r accepted legal added most = record {
   small = small_more r.id.0 [] (omega (arith, added, adds_most h, few w h accepted legal)) refl;
@@ -279,6 +293,68 @@ done_line w h k r accepted legal f flies =
 returns : (w : Workload) (h : List Event) (p : Pid) (c : Call) → IsAccepted w → HasCall w h p c
     → IsOneOf (most_processes w) p.0 × AreInRange [] []
 returns w h p c accepted call = (client w h p c accepted call, record { small = refl; wide = refl })
+
+-- the transaction that is sealed, and how many buffers it takes
+seal_line : (w : Workload) (h : List Event) → IsAccepted w → IsLegal w (h ▹ Seal (next_txn h) (length (marked_buffers h)))
+    → AreInRange ((next_txn h).0 ∷ length (marked_buffers h) ∷ []) []
+seal_line w h accepted legal =
+    let sealed = h ▹ Seal (next_txn h) (length (marked_buffers h)) in
+    let j = journal_known w sealed accepted legal in
+    record {
+      small = small_more (seals h + 1) (length (marked_buffers h) ∷ [])
+          (omega (arith, seals_most h, few w sealed accepted legal))
+          (small_more (length (marked_buffers h)) [] (omega (arith, j.stands.4)) refl);
+      wide = refl;
+    }
+
+-- the transaction of a request of the commit thread is one of those that were sealed
+subject_small : (n : ℕ) (kind : ReqKind) (first long id : ℕ) → is_of_commit (journal_request id kind first long) ≡ true
+    → IsOfSealed n kind → n < 2 ^ 32 → list_all is_small (subject kind) ≡ true
+subject_small n (kind.Read p s g) first long id is of small = absurd (cc)
+subject_small n (kind.Pages s g) first long id is of small = absurd (cc)
+subject_small n (kind.Log t) first long id is of small = small_more t.0 [] (omega (arith, of.1, small)) refl
+subject_small n (kind.Commit t) first long id is of small = small_more t.0 [] (omega (arith, of.1, small)) refl
+subject_small n (kind.Home t) first long id is of small = small_more t.0 [] (omega (arith, of.1, small)) refl
+subject_small n (kind.Clear t) first long id is of small = small_more t.0 [] (omega (arith, of.1, small)) refl
+
+-- a request of the commit thread, of those in the journal
+journal_of_commit : (w : Workload) (h : List Event) (kind : ReqKind) (first n : ℕ) → Journals w h kind first n
+    → is_of_commit (journal_request (adds h) kind first n) ≡ true
+journal_of_commit w h (kind.Read p s g) first n j = elim j [ ]
+journal_of_commit w h (kind.Pages s g) first n j = elim j [ ]
+journal_of_commit w h (kind.Log t) first n j = refl
+journal_of_commit w h (kind.Commit t) first n j = refl
+journal_of_commit w h (kind.Home t) first n j = refl
+journal_of_commit w h (kind.Clear t) first n j = refl
+
+-- it is asked for by that thread
+asked_by : (w : Workload) (h : List Event) (kind : ReqKind) (first n : ℕ) → Journals w h kind first n
+    → IsAskedBy Cm kind n
+asked_by w h (kind.Read p s g) first n j = elim j [ ]
+asked_by w h (kind.Pages s g) first n j = elim j [ ]
+asked_by w h (kind.Log t) first n j = refl
+asked_by w h (kind.Commit t) first n j = (refl, j.long)
+asked_by w h (kind.Home t) first n j = (refl, j.long)
+asked_by w h (kind.Clear t) first n j = (refl, j.long)
+
+journal_line : (w : Workload) (h : List Event) (kind : ReqKind) (first n : ℕ) → IsAccepted w
+    → IsLegal w (h ▹ Add Cm (journal_request (adds h) kind first n)) → Journals w h kind first n
+    → AreInRange (first ∷ n ∷ subject kind) []
+journal_line w h kind first n accepted legal j =
+    let r = journal_request (adds h) kind first n in
+    let added = h ▹ Add Cm r in
+    let known = journal_known w added accepted legal in
+    let here : slice_get (requests added) (length (requests h)) ≡ Some r = slice_get-push_new (requests h) r in
+    let is = journal_of_commit w h kind first n j in
+    let run = known.runs (length (requests h)) r here is in
+    let end = ends_within w added r accepted (maps_known.maps w added accepted legal) (inr run) in
+    record {
+      small = small_more first (n ∷ subject kind) (omega (arith, end))
+          (small_more n (subject kind) (omega (arith, run.most))
+          (subject_small (seals added) kind first n (adds h) is (known.numbers (length (requests h)) r here)
+          (omega (arith, seals_most added, few w added accepted legal))));
+      wide = refl;
+    }
 
 -- what comes next has its line
 has_line : (w : Workload) (h : List Event) (e : Event) → IsAccepted w → IsLegal w (h ▹ e) → Came w h e
@@ -397,10 +473,23 @@ has_line w h e accepted legal (came_grow run block serving live at short) =
     }
 has_line w h e accepted legal (came_add run block serves live at grown) =
     record { formed = (refl, refl); range = (tt, add_line w h run block accepted legal.1 serves at) }
+has_line w h e accepted legal (came_flushed p name s working idle written) =
+    record { formed = tt; range = returns w h p _ accepted working.admitted.has }
+has_line w h e accepted legal (came_synced p name s working acted safe) =
+    record { formed = tt; range = returns w h p _ accepted working.admitted.has }
+has_line w h e accepted legal (came_seal may) =
+    record { formed = tt; range = (tt, seal_line w h accepted legal) }
+has_line w h e accepted legal (came_journal kind first n j) =
+    record {
+      formed = (refl, asked_by w h kind first n j);
+      range = (tt, journal_line w h kind first n accepted legal j);
+    }
 has_line w h e accepted legal (came_send r free picked) =
     let f = known w h accepted legal.1 in
-    let of = queued_of w h 0 r f (sym (picks_first w h accepted f) ∙ picked) in
-    record { formed = tt; range = (tt, send_line w h r accepted legal.1 of.below of.run.run.most) }
+    let there = picked_there w h r accepted picked in
+    let of = queued_of w h there.0 r f there.1 in
+    let run = has_run w h r.id.0 r f.runs (journal_known w h accepted legal.1) (f.waiting.queue_of there.0 r there.1) in
+    record { formed = tt; range = (tt, send_line w h r accepted legal.1 of.below (longest w h r run)) }
 has_line w h e accepted legal (came_done k r flies) =
     record { formed = tt; range = (tt, done_line w h k r accepted legal.1 (known w h accepted legal.1) flies) }
 
