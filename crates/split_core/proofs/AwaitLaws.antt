@@ -39,12 +39,13 @@ use Rattle.split_types.specs.Proving.Came.Came.{came_enter, came_admit, came_cha
 use Rattle.split_types.specs.Proving.Came.Came.{came_make, came_drop, came_no_file, came_too_big, came_wrote, came_read}
 use Rattle.split_types.specs.Proving.Came.Came.{came_fault, came_no_space, came_put, came_get, came_zeros, came_evict}
 use Rattle.split_types.specs.Proving.Came.Came.{came_load, came_serve, came_skip, came_map, came_grow, came_add}
-use Rattle.split_types.specs.Proving.Came.Came.{came_send, came_done}
+use Rattle.split_types.specs.Proving.Came.Came.{came_flushed, came_synced, came_seal, came_journal, came_send, came_done}
 use Rattle.split_types.specs.Proving.Known.{Known}
 use Rattle.split_types.proofs.Shared.{came, known, bound_of, live_of, Numbers, numbers, Standing, standing, left_by}
 use Rattle.split_types.proofs.Shared.{stands_enter, stands_admit, stands_put, stands_get, stands_ret, not_own}
 use Rattle.split_types.proofs.Shared.{in_filter, same_buf-self, list_any_here, slice_get-push, slice_get-push_old}
 use Rattle.split_types.proofs.Shared.{slice_get-push_new, same_number}
+use Rattle.split_types.proofs.JournalAdds.{of_journal}
 use Rattle.split_core.specs.Awaits.{reader_at, done_for, awaits}
 use Rattle.split_core.proofs.ClientViewsPages.{none_badly}
 
@@ -318,6 +319,12 @@ awaited_next w h e p f n legal (came_grow run block serves there at short) old i
     old is
 awaited_next w h e p f n legal (came_send r free picked) old is =
     old is
+awaited_next w h e p f n legal (came_flushed q name s working idle written) old is =
+    old is
+awaited_next w h e p f n legal (came_seal may) old is =
+    old is
+awaited_next w h e p f n legal (came_synced q name s working acted safe) old is =
+    awaited_ret w h q reply.Done p old is
 awaited_next w h e p f n legal (came_put q name off len fill s piece here may) old is =
     awaited_put w h q s piece.page piece.from piece.to fill p legal here.working.file (old is)
 awaited_next w h e p f n legal (came_get q name off len s piece here held) old is =
@@ -328,6 +335,8 @@ awaited_next w h e p f n legal (came_zeros q name off len s piece here absent no
 awaited_next w h e p f n legal (came_load q c s piece here absent block at) old is =
     awaited_load w h q c s piece block p here old is
 awaited_next w h e p f n legal (came_add run block at there placed long) old is =
+    one_more (standing w h p) (outstanding h) _ p (old is)
+awaited_next w h e p f n legal (came_journal kind first n' next) old is =
     one_more (standing w h p) (outstanding h) _ p (old is)
 awaited_next w h e p f n legal (came_done j r at) old is =
     let parts = and_parts (not (is_process p (reader_at h r.id.0))) (awaits h p) is in
@@ -353,6 +362,8 @@ reader_new w h by r p (came_load q c s piece here absent block at) is =
     subst (λ x. (1 ≤ x.0) × (x.0 ≤ length w.procs)) same
     (here.working.admitted.has.first, here.working.admitted.has.last)
 reader_new w h by r p (came_add run block at there placed long) is = absurd (cc is)
+reader_new w h by r p (came_journal kind first n next) is =
+    let none = (of_journal w h (adds h) kind first n next).reads_for_none in absurd (cc (sym none ∙ is))
 
 pub reader_within : (w : Workload) (h : List Event) (id : ℕ) (r : Request) (p : Pid) → IsLegal w h
     → slice_get (requests h) id ≡ Some r → reads_for r ≡ Some p → (1 ≤ p.0) × (p.0 ≤ length w.procs)

@@ -11,15 +11,15 @@ use Rattle.split_types.specs.declared.actor.Actor.TheVariants.{Client}
 use Rattle.split_types.specs.declared.call.Reply.{Reply}
 use Rattle.split_types.specs.declared.workload.Workload.{Workload}
 use Rattle.split_types.specs.declared.event.Event.{Event}
-use Rattle.split_types.specs.declared.event.Event.TheVariants.{Enter, Admit, Make, Put, Get, Drop, Ret, Add, Done}
+use Rattle.split_types.specs.declared.event.Event.TheVariants.{Enter, Admit, Make, Put, Get, Drop, Flushed, Ret, Add, Done}
 use Rattle.split_types.specs.History.{◌▹◌}
 use Rattle.split_types.specs.Hooks.{maker}
-use Rattle.split_types.specs.Calls.{returned}
+use Rattle.split_types.specs.Calls.{returned, is_finished}
 use Rattle.split_types.specs.Files.{bound_file}
 use Rattle.split_types.specs.FileSizes.{size_at_admit}
 use Rattle.split_types.specs.Reads.{is_process}
 use Rattle.split_types.specs.Workloads.{calls_of}
-use Rattle.split_types.specs.Legal.{is_finished}
+use Rattle.split_types.specs.Calls.{is_finished}
 use Rattle.split_types.proofs.Shared.{some_at}
 use Rattle.split_core.specs.declared.note.clients.Client.{Client as Kept}
 use Rattle.split_core.specs.declared.note.clients.Clients.{Clients}
@@ -42,6 +42,7 @@ others_stay w h (Get b s g from to sum) q fits other unread = rw (other_number b
 others_stay w h (Ret b r) q fits other unread = rw (other_number b q (other b refl), bound_file) refl
 others_stay w h (Make b slot serial) q fits other unread = rw (other_number b q (other b refl)) refl
 others_stay w h (Drop b slot serial) q fits other unread = rw (other_number b q (other b refl)) refl
+others_stay w h (Flushed b) q fits other unread = rw (other_number b q (other b refl)) refl
 others_stay w h (Add (Client b) r) q fits other unread = rw (other_number b q (other b refl)) refl
 others_stay w h (Done k id ok) q fits other unread = rw unread refl
 others_stay w h e q fits other unread = refl

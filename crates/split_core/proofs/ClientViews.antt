@@ -1,5 +1,5 @@
 -- What a process sees of the stack is what decides its next event.
-use Rattle.std.proofs.Common.{◌≡◌, ℕ, ◌-◌, ◌≤◌, List, length, sum, slice_range, true, false, ◌&&◌, ◌||◌}
+use Rattle.std.proofs.Common.{◌≡◌, ℕ, ◌-◌, ◌≤◌, List, length, filter, sum, slice_range, true, false, ◌&&◌, ◌||◌}
 use Rattle.std.proofs.Common.{Option, Some, None, is_some, refl, ap, sym, ◌∙◌, subst, nat_le, option_map}
 use Rattle.std.specs.Prelude.{IsSomeAnd, IfSome}
 use Rattle.std.proofs.lemmas.Bool.{cond-true, le-leb, and_from}
@@ -9,11 +9,13 @@ use Rattle.split_types.specs.declared.ids.ReqId.{ReqId}
 use Rattle.split_types.specs.declared.actor.Actor.TheVariants.{Client}
 use Rattle.split_types.specs.declared.buf.Buf.TheVariants.{Page}
 use Rattle.split_types.specs.declared.call.Call.{Call}
+use Rattle.split_types.specs.declared.call.Call.TheVariants.{Fsync}
 use Rattle.split_types.specs.declared.request.Run.{Run}
 use Rattle.split_types.specs.declared.workload.Workload.{Workload}
 use Rattle.split_types.specs.declared.event.Event.{Event}
 use Rattle.split_types.specs.History.{adds}
-use Rattle.split_types.specs.Calls.{call_of}
+use Rattle.split_types.specs.Calls.{call_of, returned}
+use Rattle.split_types.specs.Workloads.{is_call_of}
 use Rattle.split_types.specs.Files.{is_live, bound_file}
 use Rattle.split_types.specs.FileSizes.{working_file, size_at_admit}
 use Rattle.split_types.specs.FileSlots.{slot_of_some}
@@ -27,9 +29,9 @@ use Rattle.split_types.specs.Clients.{piece_state, state_left, client_state, nex
 use Rattle.split_types.specs.Writeback.{service}
 use Rattle.split_types.specs.Next.{next}
 use Rattle.split_types.specs.FilesInOrder.{AreFiles}
-use Rattle.split_types.specs.Accepted.{IsAccepted}
+use Rattle.split_types.specs.Accepted.{IsBuiltCall, IsAccepted}
 use Rattle.split_types.specs.Legal.{IsLegal}
-use Rattle.split_types.proofs.Shared.{files_are_in_order, maps_known, live_of}
+use Rattle.split_types.proofs.Shared.{files_are_in_order, maps_known, live_of, map_there, filter_there, all_at}
 use Rattle.cause_set.specs.Tags.{Tags}
 use Rattle.page_cache.specs.Held.{Held}
 use Rattle.page_cache.specs.Cached as cached
@@ -60,6 +62,8 @@ sees w p f n run x id = record {
   mapped = run;
   progress = x;
   may_admit = true;
+  flushable = false;
+  committed = false;
   next_id = id;
 }
 
@@ -170,6 +174,15 @@ left_is w h p x is =
 admits_all : (w : Workload) (h : List Event) (p : ℕ) → IsAccepted w → admits w h p ≡ true
 admits_all w h p accepted = rw accepted.built.sched refl
 
+-- no call is an fsync so far
+no_fsync : (w : Workload) (p : ℕ) (name : List ℕ) (h : List Event) → IsAccepted w
+    → call_of w h p ≡ Some (Fsync name) → ⊥
+no_fsync w p name h accepted at =
+    let call = map_there (λ (x : Pid × Call). x.1) (filter (is_call_of p) w.calls) (returned h p) (Fsync name) at
+    in let line = filter_there (is_call_of p) w.calls (returned h p) call.0 call.1
+    in subst IsBuiltCall call.2
+    (all_at (λ (c : Pid × Call). IsBuiltCall c.1) w.calls line.0 call.0 accepted.built.calls line.1)
+
 -- the file that a call is bound to, as it is seen
 seen_file : (w : Workload) (p : Pages) (f : Filing) (tags : Tags) (h : List Event) (q : Pid) (n : ℕ)
     (run : Option Run) (x : Progress) (id : ReqId) → Seen w p f tags h q n run x id
@@ -206,6 +219,8 @@ shows w p f tags h q n run x id seen =
       may_admit = admits_all w h q.0 seen.accepted;
       admitted = sym is.admitted;
       acted = sym is.acted;
+      flushable = λ name asked. absurd (no_fsync w q.0 name h seen.accepted (sym is.call ∙ asked));
+      committed = λ name asked. absurd (no_fsync w q.0 name h seen.accepted (sym is.call ∙ asked));
       name_taken =
           name_taken_is w h (call_of w h q.0) (in_order w h seen.accepted seen.legal)
           ∙ ap (λ slots. called.is_name_taken slots (call_of w h q.0)) (sym seen.filing.files.slots)

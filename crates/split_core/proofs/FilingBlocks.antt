@@ -1,7 +1,7 @@
 -- The blocks that are kept stand for the history still, after an event that maps nothing and drops nothing.
 use Rattle.std.proofs.Common.{◌≡◌, ℕ, ◌+◌, ◌-◌, ◌==◌, ◌<◌, ◌≤◌, List, length, nat_le, Bool, true, false, not, ◌&&◌, ◌||◌, Some, is_none, refl, arith, sym, subst, inl, inr, ap, ◌∙◌, if◌then◌else◌}
 use Rattle.std.specs.Bool.{OnTrue, OnFalse}
-use Rattle.std.proofs.lemmas.Bool.{cases_Bool, and_parts, and_from, and_left, or_cases, or_left, eqb-true, not-true, OnTrue_at, OnFalse_at, OnTrue_from}
+use Rattle.std.proofs.lemmas.Bool.{cases_Bool, and_parts, and_from, and_left, or_left, eqb-true, not-true, OnTrue_at, OnFalse_at, OnTrue_from}
 use Rattle.std.proofs.lemmas.Bool.Decides.{nat_tests}
 use Rattle.split_types.specs.declared.ids.Pid.{Pid}
 use Rattle.split_types.specs.declared.ids.ReqId.{ReqId}
@@ -14,8 +14,7 @@ use Rattle.split_types.specs.declared.request.ReqKind.{ReqKind}
 use Rattle.split_types.specs.declared.request.ReqKind.TheVariants.{Read, Pages, Log, Commit, Home, Clear}
 use Rattle.split_types.specs.declared.workload.Workload.{Workload}
 use Rattle.split_types.specs.declared.event.Event.{Event}
-use Rattle.split_types.specs.declared.event.Event.TheVariants.{Enter, Admit, Make, Put, Get, Drop, Flushed, Ret, Serve}
-use Rattle.split_types.specs.declared.event.Event.TheVariants.{Map, Skip, Seal, Add, Send, Done, Evict, Tick}
+use Rattle.split_types.specs.declared.event.Event.TheVariants.{Make, Put, Drop, Map, Add, Done}
 use Rattle.split_types.specs.History.{◌▹◌}
 use Rattle.split_types.specs.Hooks.{same_buf, covers}
 use Rattle.split_types.specs.Files.{is_live}
@@ -67,39 +66,24 @@ pub blocks_quiet : (w : Workload) (h : List Event) (e : Event) (a : Blocks) → 
     → ((by : Pid) (s : Serial) (g from to fill : ℕ) → e ≡ Put by s g from to fill → ⊥)
     → ((by : Pid) (slot : Slot) (serial : Serial) → e ≡ Drop by slot serial → ⊥)
     → ((slot : Slot) (s : Serial) (g n block : ℕ) (new : Bool) (size : ℕ) → e ≡ Map slot s g n block new size → ⊥)
+    → ((k : ℕ) (id : ReqId) (ok : Bool) → e ≡ Done k id ok → ⊥)
     → BlocksAre w a h → BlocksAre w a (h ▹ e)
-blocks_quiet w h (Enter p k) a accepted legal fits make put drop map stands =
-    passed w h (Enter p k) a accepted legal (λ s x. refl) (λ s. refl) (λ s g. refl) stands
-blocks_quiet w h (Admit p) a accepted legal fits make put drop map stands =
-    passed w h (Admit p) a accepted legal (λ s x. refl) (λ s. refl) (λ s g. refl) stands
-blocks_quiet w h (Get p t k from to sum) a accepted legal fits make put drop map stands =
-    passed w h (Get p t k from to sum) a accepted legal (λ s x. refl) (λ s. refl) (λ s g. refl) stands
-blocks_quiet w h (Ret p r) a accepted legal fits make put drop map stands =
-    passed w h (Ret p r) a accepted legal (λ s x. refl) (λ s. refl) (λ s g. refl) stands
-blocks_quiet w h (Serve t k n) a accepted legal fits make put drop map stands =
-    passed w h (Serve t k n) a accepted legal (λ s x. refl) (λ s. refl) (λ s g. refl) stands
-blocks_quiet w h Skip a accepted legal fits make put drop map stands =
-    passed w h Skip a accepted legal (λ s x. refl) (λ s. refl) (λ s g. refl) stands
-blocks_quiet w h (Add by r) a accepted legal fits make put drop map stands =
+blocks_quiet w h (Make by slot t) a accepted legal fits make put drop map done stands = absurd (make _ _ _ refl)
+blocks_quiet w h (Put by t k from to fill) a accepted legal fits make put drop map done stands =
+    absurd (put _ _ _ _ _ _ refl)
+blocks_quiet w h (Drop by slot t) a accepted legal fits make put drop map done stands = absurd (drop _ _ _ refl)
+blocks_quiet w h (Map slot t k n block new size) a accepted legal fits make put drop map done stands =
+    absurd (map _ _ _ _ _ _ _ refl)
+blocks_quiet w h (Done k id ok) a accepted legal fits make put drop map done stands = absurd (done _ _ _ refl)
+blocks_quiet w h (Add by r) a accepted legal fits make put drop map done stands =
     passed w h (Add by r) a accepted legal (λ s x. refl) (λ s. refl)
+    (record { dropped = λ s. refl; takers = λ s. refl; committed = λ t. refl })
     (λ s g. add_bits (is_live w h s.0) (covers r (Page s g)) (is_put_since h (Page s g))
     (is_none (mapped_block w h s.0 g))
     (λ out. covered w h by r.id r.kind r.first r.n s g fits.kind.kind out)) stands
-blocks_quiet w h (Send id cost) a accepted legal fits make put drop map stands =
-    passed w h (Send id cost) a accepted legal (λ s x. refl) (λ s. refl) (λ s g. refl) stands
-blocks_quiet w h (Done k id ok) a accepted legal fits make put drop map stands =
-    passed w h (Done k id ok) a accepted legal (λ s x. refl) (λ s. refl) (λ s g. refl) stands
-blocks_quiet w h (Evict p t k) a accepted legal fits make put drop map stands =
-    passed w h (Evict p t k) a accepted legal (λ s x. refl) (λ s. refl) (λ s g. refl) stands
-blocks_quiet w h (Make by slot t) a accepted legal fits make put drop map stands = absurd (make _ _ _ refl)
-blocks_quiet w h (Put by t k from to fill) a accepted legal fits make put drop map stands =
-    absurd (put _ _ _ _ _ _ refl)
-blocks_quiet w h (Drop by slot t) a accepted legal fits make put drop map stands = absurd (drop _ _ _ refl)
-blocks_quiet w h (Map slot t k n block new size) a accepted legal fits make put drop map stands =
-    absurd (map _ _ _ _ _ _ _ refl)
-blocks_quiet w h (Flushed p) a accepted legal fits make put drop map stands = absurd fits.kind
-blocks_quiet w h (Seal t k) a accepted legal fits make put drop map stands = absurd fits.kind
-blocks_quiet w h (Tick d) a accepted legal fits make put drop map stands = absurd fits.kind
+blocks_quiet w h e a accepted legal fits make put drop map done stands =
+    passed w h e a accepted legal (λ s x. refl) (λ s. refl)
+    (record { dropped = λ s. refl; takers = λ s. refl; committed = λ t. refl }) (λ s g. refl) stands
 
 -- ---- a make
 make_bits : (new live put none : Bool) → (put ≡ true → new ≡ false)
@@ -114,6 +98,7 @@ pub blocks_make : (w : Workload) (h : List Event) (by : Pid) (slot : Slot) (seri
     → BlocksAre w a (h ▹ Make by slot serial)
 blocks_make w h by slot serial a accepted legal fits stands =
     carried w h (Make by slot serial) a a accepted legal refl (λ s x. refl) lives
+    (record { dropped = λ s. refl; takers = λ s. refl; committed = λ t. refl })
     (stands.reserved ∙ sym (reserved_same w h (Make by slot serial)
     (λ s g. make_bits (serial.0 == s.0) (is_live w h s.0) (is_put_since h (Page s g))
     (is_none (mapped_block w h s.0 g)) (old_page s g)))) stands
@@ -129,12 +114,12 @@ blocks_make w h by slot serial a accepted legal fits stands =
     new_file s below new =
         let same : serial.0 ≡ s = eqb-true serial.0 s new in omega (arith, same, below, number)
 
-    lives : (s x : ℕ) → (serial.0 == s || is_live w h s) ≡ true → is_in_map w h s x ≡ true → is_live w h s ≡ true
-    lives s x live within = elim (or_cases (serial.0 == s) (is_live w h s) live) [
+    lives : (s x : ℕ) → is_in_map w h s x ≡ true → (serial.0 == s || is_live w h s) ≡ is_live w h s
+    lives s x within = elim (cases_Bool (serial.0 == s)) [
       | inl new ↦
           (let at = f.blocks.of_map s x within
           in absurd (new_file s (f.numbered s (f.kept s at.0 x at.1)) new))
-      | inr old ↦ old
+      | inr old ↦ ap (λ b. b || is_live w h s) old
     ]
 
     old_page : (s : Serial) (g : ℕ) → is_put_since h (Page s g) ≡ true → (serial.0 == s.0) ≡ false
@@ -227,8 +212,8 @@ put_promised : (w : Workload) (h : List Event) (by : Pid) (s : Serial) (g from t
     → new.reserved ≡ length (reserved_pages w (h ▹ Put by s g from to fill)) → BlocksAre w old h
     → BlocksAre w new (h ▹ Put by s g from to fill)
 put_promised w h by s g from to fill old new accepted legal states reserved stands =
-    carried w h (Put by s g from to fill) old new accepted legal states (λ t x. refl) (λ t x live within. live)
-    reserved stands
+    carried w h (Put by s g from to fill) old new accepted legal states (λ t x. refl) (λ t x within. refl)
+    (record { dropped = λ u. refl; takers = λ u. refl; committed = λ u. refl }) reserved stands
 
 -- a put, where a free block is promised to its page, if it becomes dirty and has none
 pub blocks_put : (w : Workload) (h : List Event) (by : Pid) (s : Serial) (g from to fill : ℕ) (promise : Bool)

@@ -6,6 +6,7 @@ use Rattle.std.proofs.lemmas.Bool.Decides.{nat_tests}
 use Rattle.std.proofs.lemmas.Option.{same_Some}
 use Rattle.split_types.specs.declared.ids.Serial.{Serial}
 use Rattle.split_types.specs.declared.ids.Slot.{Slot}
+use Rattle.split_types.specs.declared.ids.Txn.{Txn}
 use Rattle.split_types.specs.declared.buf.Buf.TheVariants.{Page}
 use Rattle.split_types.specs.declared.workload.Workload.{Workload}
 use Rattle.split_types.specs.declared.event.Event.{Event}
@@ -15,7 +16,9 @@ use Rattle.split_types.specs.Sets.{has}
 use Rattle.split_types.specs.Workloads.{first_block}
 use Rattle.split_types.specs.Files.{is_live}
 use Rattle.split_types.specs.Pages.{is_dirty}
-use Rattle.split_types.specs.FileMaps.{mapped_block, is_in_map, is_taken, is_waiting, free_blocks, has_no_block, is_reserved, reserved_pages}
+use Rattle.split_types.specs.FileMaps.{mapped_block, is_in_map, is_dropped, is_going, is_taken, is_waiting, free_blocks}
+use Rattle.split_types.specs.FileMaps.{has_no_block, is_reserved, reserved_pages}
+use Rattle.split_types.specs.MapsInOrder.{keeps_blocks}
 use Rattle.split_types.specs.ServedRuns.{FreeRun, in_a_row, free_run_of}
 use Rattle.split_types.specs.Writeback.{served_run}
 use Rattle.split_types.specs.Accepted.{IsAccepted}
@@ -24,9 +27,10 @@ use Rattle.split_types.proofs.Shared.{free_is, has-range, has-filter}
 use Rattle.split_types.proofs.MapState.{ServesOf, MapsOf}
 use Rattle.split_types.proofs.MapLaws.{maps_of}
 use Rattle.split_types.proofs.PromisePages.{reserved_mapped}
-use Rattle.delayed_alloc.specs.Blocks.{Blocks, Taken, state_at, IsLeastRun, TakesRun}
+use Rattle.delayed_alloc.specs.Blocks.{Blocks, Free, Taken, Waiting, state_at, IsLeastRun, TakesRun}
 use Rattle.split_core.specs.Fits.{HaveBlocks, MapFits, Fits}
 use Rattle.split_core.specs.Filing.{BlocksAre, says_free}
+use Rattle.split_core.proofs.FilingBlocksWaits.{live_undropped, waits_still, going_same}
 use Rattle.split_core.proofs.FilingBlocksUsed.{taken_by, taken_of, is_in_use, used_of, used_by, reserved_same, carried}
 use Rattle.split_core.proofs.FilingBlocksFree.{free_state, state_there}
 
@@ -173,6 +177,10 @@ maps_run w h slot s g n block size old new accepted legal fits stands least take
         in takes.others x (apart x outside)
         ∙ stands.taken x (taken_by w h at.0 x before at.1 (old_in at.0 x outside at.2)))
   ];
+  waits = λ u x t is drop within. waited x t
+      (stands.waits u x t (sym (going u) ∙ is) drop (going_in u x (sym (going u) ∙ is) within))
+      (cases_Bool (is_mapped block n x));
+  gone = λ x t is. still x t (cases_Bool (is_mapped block n x)) is;
   reserved = omega (
     arith,
     takes.promised,
@@ -222,15 +230,55 @@ maps_run w h slot s g n block size old new accepted legal fits stands least take
           | inr old ↦ old
         ]
 
+    going : (u : ℕ) → is_going (h ▹ Map slot s g n block true size) u ≡ is_going h u
+    going = going_same h (h ▹ Map slot s g n block true size)
+        (record { dropped = λ u. refl; takers = λ u. refl; committed = λ u. refl })
+
+    keeps : (u : ℕ) → keeps_blocks w (h ▹ Map slot s g n block true size) u ≡ keeps_blocks w h u
+    keeps u = ap (λ b. is_live w h u || b) (going u)
+
+    -- the map of a file that was dropped stays, since this file is there
+    going_in : (u x : ℕ) → is_going h u ≡ true
+        → ((s.0 == u && nat_le block x && nat_lt x (block + n)) || is_in_map w h u x) ≡ true
+        → is_in_map w h u x ≡ true
+    going_in u x gone is =
+        elim (or_cases (s.0 == u && nat_le block x && nat_lt x (block + n)) (is_in_map w h u x) is) [
+          | inl new ↦
+              (let same : s.0 ≡ u = grind (arith, nat_tests)
+              in absurd (live_undropped w h u accepted legal.1
+              (subst (λ m. is_live w h m ≡ true) same fits.kind.file.live) (and_parts (is_dropped h u) _ gone).0))
+          | inr old ↦ old
+        ]
+
+    -- a block that waits isn't one of the map
+    waited : (x : ℕ) (t : Txn) → state_at old x ≡ Some (Waiting t)
+        → (is_mapped block n x ≡ true) ⊎ (is_mapped block n x ≡ false) → state_at new x ≡ Some (Waiting t)
+    waited x t is (inr outside) = takes.others x (apart x outside) ∙ is
+    waited x t is (inl within) =
+        let bounds : (block ≤ x) × (x < block + n) = grind (arith, nat_tests)
+        in absurd (let both : Some (Waiting t) ≡ Some Free = sym is ∙ least.free x bounds.0 bounds.1 in cc)
+
+    still : (x : ℕ) (t : Txn) → (is_mapped block n x ≡ true) ⊎ (is_mapped block n x ≡ false)
+        → state_at new x ≡ Some (Waiting t) → is_waiting w (h ▹ Map slot s g n block true size) x ≡ true
+    still x t (inl within) is =
+        absurd (let both : Some (Waiting t) ≡ Some Taken = sym is ∙ new_at x within in cc)
+    still x t (inr outside) is =
+        waits_still w h (h ▹ Map slot s g n block true size) x after
+        (λ u gone within. (
+          going u ∙ gone,
+          or_right (s.0 == u && nat_le block x && nat_lt x (block + n)) (is_in_map w h u x) within,
+        ))
+        (stands.gone x t (sym (takes.others x (apart x outside)) ∙ is))
+
     used_same : (x : ℕ) → is_mapped block n x ≡ false
         → is_in_use w h x ≡ is_in_use w (h ▹ Map slot s g n block true size) x
     used_same x outside =
         same_tests (is_in_use w h x) (is_in_use w (h ▹ Map slot s g n block true size) x)
         (λ used. (let at = used_of w h x used
-        in used_by w (h ▹ Map slot s g n block true size) at.0 x after
-        (or_right (s.0 == at.0 && nat_le block x && nat_lt x (block + n)) (is_in_map w h at.0 x) at.1)))
+        in used_by w (h ▹ Map slot s g n block true size) at.0 x after (keeps at.0 ∙ at.1)
+        (or_right (s.0 == at.0 && nat_le block x && nat_lt x (block + n)) (is_in_map w h at.0 x) at.2)))
         (λ used. (let at = used_of w (h ▹ Map slot s g n block true size) x used
-        in used_by w h at.0 x before (old_in at.0 x outside at.1)))
+        in used_by w h at.0 x before (sym (keeps at.0) ∙ at.1) (old_in at.0 x outside at.2)))
 
 pub blocks_map : (w : Workload) (h : List Event) (slot : Slot) (s : Serial) (g n block size : ℕ) (old new : Blocks)
     (first m : ℕ)
@@ -248,7 +296,8 @@ pub blocks_map_old : (w : Workload) (h : List Event) (slot : Slot) (s : Serial) 
     → IsAccepted w → IsLegal w (h ▹ Map slot s g n block false size) → Fits w h (Map slot s g n block false size)
     → BlocksAre w a h → BlocksAre w a (h ▹ Map slot s g n block false size)
 blocks_map_old w h slot s g n block size a accepted legal fits stands =
-    carried w h (Map slot s g n block false size) a a accepted legal refl same (λ t x live within. live)
+    carried w h (Map slot s g n block false size) a a accepted legal refl same (λ t x within. refl)
+    (record { dropped = λ t. refl; takers = λ t. refl; committed = λ t. refl })
     (stands.reserved ∙ sym (reserved_same w h (Map slot s g n block false size) promised)) stands
   where
     f : MapsOf w h

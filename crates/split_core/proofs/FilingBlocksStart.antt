@@ -4,16 +4,18 @@ use Rattle.std.proofs.lemmas.Bool.{cases_lt, or_left, false_from_ne_true, lt-ltb
 use Rattle.std.proofs.lemmas.Bool.Decides.{nat_tests}
 use Rattle.std.proofs.lemmas.List.{length-append, length-replicate, get_or-replicate}
 use Rattle.std.proofs.lemmas.List.Sums.{sum_by-cons}
-use Rattle.std.proofs.lemmas.Option.{slice_get-get_or}
+use Rattle.std.proofs.lemmas.Option.{slice_get-get_or, slice_get_within}
+use Rattle.split_types.specs.declared.ids.Txn.{Txn}
 use Rattle.split_types.specs.declared.workload.Preset.{Preset}
 use Rattle.split_types.specs.declared.workload.Workload.{Workload}
 use Rattle.split_types.specs.Workloads.{first_block, preset_pages, pages_in, page_block}
 use Rattle.split_types.specs.FileMaps.{is_taken, is_waiting}
+use Rattle.split_types.specs.MapsInOrder.{keeps_blocks}
 use Rattle.split_types.specs.Accepted.{IsAccepted}
 use Rattle.split_types.proofs.Shared.{slice_get-append_left, slice_get-append_right, file_within}
 use Rattle.split_types.proofs.MapState.{MapsOf}
 use Rattle.split_types.proofs.MapLaws.{maps_of}
-use Rattle.delayed_alloc.specs.Blocks.{State, Free, Taken, state_at, new_blocks}
+use Rattle.delayed_alloc.specs.Blocks.{State, Free, Taken, Waiting, state_at, new_blocks}
 use Rattle.split_core.specs.Filing.{BlocksAre, is_free_block, says_free}
 use Rattle.split_core.proofs.FilingBlocksUsed.{taken_by, is_in_use, used_of}
 
@@ -85,10 +87,14 @@ start_out w x accepted past = false_from_ne_true (is_in_use w [] x) (λ used. ou
     live : (s : ℕ) → (nat_lt s (length w.files) || false) ≡ true → s < length w.files
     live s is = grind (arith, nat_tests)
 
-    out : (s : ℕ) × ((nat_le (page_block w s 0) x && nat_lt x (page_block w s 0 + pages_in w s)) ≡ true) → ⊥
+    out : (s : ℕ) × (keeps_blocks w [] s ≡ true)
+        × ((nat_le (page_block w s 0) x && nat_lt x (page_block w s 0 + pages_in w s)) ≡ true)
+        → ⊥
     out at =
-        let within : (page_block w at.0 0 ≤ x) × (x < page_block w at.0 0 + pages_in w at.0) = grind (arith, nat_tests)
-        in let kept = live at.0 (f.kept at.0 (f.blocks.of_map at.0 x at.1).0 x (f.blocks.of_map at.0 x at.1).1)
+        let in_map = at.2
+        in let within : (page_block w at.0 0 ≤ x) × (x < page_block w at.0 0 + pages_in w at.0) =
+        grind (arith, nat_tests)
+        in let kept = live at.0 (f.kept at.0 (f.blocks.of_map at.0 x at.2).0 x (f.blocks.of_map at.0 x at.2).1)
         in omega (arith, within.1, file_within w at.0 kept, past)
 
 -- ---- what stands
@@ -103,14 +109,7 @@ first_most w = by_test (nat_lt w.version 2)
 starts : (w : Workload) (taken : ℕ) → IsAccepted w → taken ≡ first_block w + preset_pages w
     → BlocksAre w (new_blocks w.device taken) []
 starts w taken accepted is = record {
-  count = omega (
-    arith,
-    length-append (replicate taken Taken) (replicate (w.device - taken) Free),
-    length-replicate taken Taken,
-    length-replicate (w.device - taken) Free,
-    is,
-    accepted.workload.presets.fit,
-  );
+  count = count;
   free = λ x below. elim (cases_lt x taken) [
     | inl used ↦ ap says_free (start_taken w.device taken x used) ∙ sym (no_free x used)
     | inr past ↦
@@ -119,9 +118,31 @@ starts w taken accepted is = record {
         ∙ and_yes (nat_le (first_block w) x) (le-leb (first_block w) x (omega (arith, past, is))))
   ];
   taken = λ x there. start_taken w.device taken x (before x there);
+  waits = λ s x t going drop within. absurd (cc);
+  gone = λ x t there. absurd (none_waits x t there);
   reserved = refl;
 }
   where
+    count : length (new_blocks w.device taken).states ≡ w.device
+    count = omega (
+      arith,
+      length-append (replicate taken Taken) (replicate (w.device - taken) Free),
+      length-replicate taken Taken,
+      length-replicate (w.device - taken) Free,
+      is,
+      accepted.workload.presets.fit,
+    )
+
+    none_waits : (x : ℕ) (t : Txn) → state_at (new_blocks w.device taken) x ≡ Some (Waiting t) → ⊥
+    none_waits x t there = elim (cases_lt x taken) [
+      | inl used ↦
+          (let both : Some (Waiting t) ≡ Some Taken = sym there ∙ start_taken w.device taken x used in cc)
+      | inr past ↦
+          (let below = slice_get_within (new_blocks w.device taken).states x (Waiting t) there
+          in let both : Some (Waiting t) ≡ Some Free =
+          sym there ∙ start_free w.device taken x past (omega (arith, below, count)) in cc)
+    ]
+
     and_yes : (b : Bool) → b ≡ true → (b && true) ≡ true
     and_yes true is_so = refl
     and_yes false is_so = absurd (cc)

@@ -2,10 +2,8 @@
 -- the maps as they were.
 use Rattle.std.proofs.Common.{◌≡◌, ℕ, ◌+◌, ◌-◌, ◌<◌, ◌≤◌, List, length, slice_get, nat_le, nat_lt, Bool, true, false, not, ◌&&◌, ◌||◌, ◌⊎◌, Some, refl, arith, sym, inl, inr, ap, ◌∙◌}
 use Rattle.std.specs.List.{range_with_len}
-use Rattle.std.proofs.lemmas.Bool.{cases_Bool, and_parts, and_from, or_cases, or_parts, or_left, lt-ltb}
+use Rattle.std.proofs.lemmas.Bool.{cases_Bool, and_parts, and_from, or_cases, or_left, or_right, lt-ltb}
 use Rattle.std.proofs.lemmas.Bool.Decides.{nat_tests}
-use Rattle.std.proofs.lemmas.List.FromFn.{length-range_with_len, get_or-range_with_len}
-use Rattle.std.proofs.lemmas.Option.{slice_get-get_or}
 use Rattle.split_types.specs.declared.ids.Serial.{Serial}
 use Rattle.split_types.specs.declared.buf.Buf.{Buf}
 use Rattle.split_types.specs.declared.buf.Buf.TheVariants.{Page}
@@ -17,26 +15,22 @@ use Rattle.split_types.specs.Workloads.{first_block}
 use Rattle.split_types.specs.Files.{is_live}
 use Rattle.split_types.specs.Pages.{is_dirty, is_busy}
 use Rattle.split_types.specs.HeldPages.{known_pages}
-use Rattle.split_types.specs.FileMaps.{is_in_map, serials, is_going, is_taken, is_waiting, free_blocks, has_no_block}
-use Rattle.split_types.specs.FileMaps.{is_reserved, reserved_pages}
+use Rattle.split_types.specs.FileMaps.{mapped_block, is_in_map, serials, is_going, is_taken, is_waiting, free_blocks}
+use Rattle.split_types.specs.FileMaps.{has_no_block, is_reserved, reserved_pages}
 use Rattle.split_types.specs.FilesInOrder.{all_files}
+use Rattle.split_types.specs.MapsInOrder.{keeps_blocks}
 use Rattle.split_types.specs.Accepted.{IsAccepted}
 use Rattle.split_types.specs.Legal.{IsLegal}
 use Rattle.split_types.proofs.Shared.{list_any_here, find_some, has-filter, has-range, pages_are_known, StandsIn}
 use Rattle.split_types.proofs.Shared.{lengths_same}
-use Rattle.split_types.proofs.MapFree.{not_free}
-use Rattle.split_types.proofs.MapState.{MapsOf}
+use Rattle.split_types.proofs.MapState.{MapsOf, keeps_of, keeps_is}
 use Rattle.split_types.proofs.MapLaws.{maps_of}
 use Rattle.split_types.proofs.PromiseFree.{free_stays}
 use Rattle.delayed_alloc.specs.Blocks.{Blocks, state_at}
 use Rattle.split_core.specs.Filing.{BlocksAre, is_free_block, says_free}
+use Rattle.split_core.proofs.FilingBlocksWaits.{range_at, waits_by, waits_of, waits_still, SameDrops, going_same}
 
 -- ---- blocks that are taken
-pub range_at : (n k : ℕ) → k < n → slice_get (range_with_len 0 n) k ≡ Some k
-range_at n k below =
-    slice_get-get_or (range_with_len 0 n) k 0 (omega (arith, below, length-range_with_len 0 n))
-    ∙ ap Some (get_or-range_with_len 0 n k 0 below ∙ omega arith)
-
 -- a block in the map of a file that is there
 pub taken_by : (w : Workload) (h : List Event) (s x : ℕ) → MapsOf w h → is_live w h s ≡ true
     → is_in_map w h s x ≡ true → is_taken w h x ≡ true
@@ -57,32 +51,21 @@ taken_of w h x taken =
 abbrev pub is_in_use : Workload → List Event → ℕ → Bool
 is_in_use w h x = is_taken w h x || is_waiting w h x
 
-pub used_of : (w : Workload) (h : List Event) (x : ℕ) → is_in_use w h x ≡ true → (s : ℕ) × (is_in_map w h s x ≡ true)
+-- some file that keeps its blocks has it in its map
+pub used_of : (w : Workload) (h : List Event) (x : ℕ) → is_in_use w h x ≡ true
+    → (s : ℕ) × (keeps_blocks w h s ≡ true) × (is_in_map w h s x ≡ true)
 used_of w h x used = elim (or_cases (is_taken w h x) (is_waiting w h x) used) [
-  | inl taken ↦ (let at = taken_of w h x taken in (at.0, at.2))
-  | inr waits ↦
-      (let found = find_some (λ s. is_going h s && is_in_map w h s x) (serials w h) waits
-      in (found.element, (and_parts (is_going h found.element) (is_in_map w h found.element x) found.passes).1))
+  | inl taken ↦ (let at = taken_of w h x taken in (at.0, or_left (is_live w h at.0) (is_going h at.0) at.1, at.2))
+  | inr waits ↦ (let at = waits_of w h x waits in (at.0, or_right (is_live w h at.0) (is_going h at.0) at.1, at.2))
 ]
 
--- each block of a map is in use
-pub used_by : (w : Workload) (h : List Event) (s x : ℕ) → MapsOf w h → is_in_map w h s x ≡ true
-    → is_in_use w h x ≡ true
-used_by w h s x f within = elim (cases_Bool (is_in_use w h x)) [
-  | inl used ↦ used
-  | inr unused ↦ absurd (out (or_parts (is_taken w h x) (is_waiting w h x) unused))
+-- and each such block is in use
+pub used_by : (w : Workload) (h : List Event) (s x : ℕ) → MapsOf w h → keeps_blocks w h s ≡ true
+    → is_in_map w h s x ≡ true → is_in_use w h x ≡ true
+used_by w h s x f keeps within = elim (or_cases (is_live w h s) (is_going h s) keeps) [
+  | inl live ↦ or_left (is_taken w h x) (is_waiting w h x) (taken_by w h s x f live within)
+  | inr going ↦ or_right (is_taken w h x) (is_waiting w h x) (waits_by w h s x f going within)
 ]
-  where
-    out : (is_taken w h x ≡ false) × (is_waiting w h x ≡ false) → ⊥
-    out neither =
-        let at = f.blocks.of_map s x within
-        in let kept = f.kept s at.0 x at.1
-        in not_free w h s x (f.numbered s kept) kept (f.unsealed s) within (record {
-          from = f.blocks.from s at.0 x at.1;
-          to = f.blocks.to s at.0 x at.1;
-          untaken = neither.0;
-          settled = neither.1;
-        })
 
 -- ---- free blocks
 pub free_at : (w : Workload) (h : List Event) (x : ℕ) → x < w.device
@@ -132,37 +115,53 @@ reserved_same w h e same =
     agree b = refl
 
 -- ---- an event that leaves all maps
+-- files with blocks are there as before, and the same were dropped
 pub carried : (w : Workload) (h : List Event) (e : Event) (old new : Blocks) → IsAccepted w → IsLegal w (h ▹ e)
     → new.states ≡ old.states
     → ((s x : ℕ) → is_in_map w (h ▹ e) s x ≡ is_in_map w h s x)
-    → ((s x : ℕ) → is_live w (h ▹ e) s ≡ true → is_in_map w h s x ≡ true → is_live w h s ≡ true)
+    → ((s x : ℕ) → is_in_map w h s x ≡ true → is_live w (h ▹ e) s ≡ is_live w h s)
+    → SameDrops h (h ▹ e)
     → new.reserved ≡ length (reserved_pages w (h ▹ e)) → BlocksAre w old h → BlocksAre w new (h ▹ e)
-carried w h e old new accepted legal states same lives reserved stands = record {
+carried w h e old new accepted legal states same lives drops reserved stands = record {
   count = ap length states ∙ stands.count;
-  free = free_kept w h (h ▹ e) old new stands (free_stays w h (h ▹ e) f (maps_of w (h ▹ e) accepted legal) same)
-      (λ x. ap says_free (at x));
+  free = free_kept w h (h ▹ e) old new stands (free_stays w h (h ▹ e) f after same keeps) (λ x. ap says_free (at x));
   taken = λ x is. at x ∙ stands.taken x (before x (taken_of w (h ▹ e) x is));
+  waits = λ s x t is drop within. at x
+      ∙ stands.waits s x t (sym (going s) ∙ is) (sym (drops.takers s) ∙ drop) (sym (same s x) ∙ within);
+  gone = λ x t is. waits_still w h (h ▹ e) x after (λ s going_on within. (going s ∙ going_on, same s x ∙ within))
+      (stands.gone x t (sym (at x) ∙ is));
   reserved = reserved;
 }
   where
     f : MapsOf w h
     f = maps_of w h accepted legal.1
 
+    after : MapsOf w (h ▹ e)
+    after = maps_of w (h ▹ e) accepted legal
+
     at : (x : ℕ) → state_at new x ≡ state_at old x
     at x = ap (λ l. slice_get l x) states
+
+    going : (s : ℕ) → is_going (h ▹ e) s ≡ is_going h s
+    going = going_same h (h ▹ e) drops
+
+    keeps : (s g x : ℕ) → mapped_block w h s g ≡ Some x → keeps_of w (h ▹ e) s ≡ keeps_of w h s
+    keeps s g x there =
+        keeps_is w (h ▹ e) s ∙ ap (λ b. b || is_going (h ▹ e) s) (lives s x (f.blocks.in_map s g x there))
+        ∙ ap (λ b. is_live w h s || b) (going s) ∙ sym (keeps_is w h s)
 
     before : (x : ℕ) → (s : ℕ) × (is_live w (h ▹ e) s ≡ true) × (is_in_map w (h ▹ e) s x ≡ true)
         → is_taken w h x ≡ true
     before x later =
         let within = sym (same later.0 x) ∙ later.2
-        in taken_by w h later.0 x f (lives later.0 x later.1 within) within
+        in taken_by w h later.0 x f (sym (lives later.0 x within) ∙ later.1) within
 
 -- and all files and promises
 pub passed : (w : Workload) (h : List Event) (e : Event) (a : Blocks) → IsAccepted w → IsLegal w (h ▹ e)
     → ((s x : ℕ) → is_in_map w (h ▹ e) s x ≡ is_in_map w h s x)
-    → ((s : ℕ) → is_live w (h ▹ e) s ≡ is_live w h s)
+    → ((s : ℕ) → is_live w (h ▹ e) s ≡ is_live w h s) → SameDrops h (h ▹ e)
     → ((s : Serial) (g : ℕ) → is_reserved w (h ▹ e) (Page s g) ≡ is_reserved w h (Page s g))
     → BlocksAre w a h → BlocksAre w a (h ▹ e)
-passed w h e a accepted legal same lives reserved stands =
-    carried w h e a a accepted legal refl same (λ s x live within. sym (lives s) ∙ live)
+passed w h e a accepted legal same lives drops reserved stands =
+    carried w h e a a accepted legal refl same (λ s x within. lives s) drops
     (stands.reserved ∙ sym (reserved_same w h e reserved)) stands

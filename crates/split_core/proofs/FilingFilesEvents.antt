@@ -1,18 +1,21 @@
 -- Files and blocks stand after one event more, by what the calls of their parts do.
-use Rattle.std.proofs.Common.{◌≡◌, ℕ, ◌+◌, ◌-◌, ◌*◌, ◌<◌, ◌≤◌, List, Bool, true, false, not, ◌&&◌, Option, Some, None, option_map, is_none, refl, ap, sym, subst, ◌∙◌, arith, IsSome}
+use Rattle.std.proofs.Common.{◌≡◌, ℕ, ◌+◌, ◌*◌, ◌<◌, ◌≤◌, List, slice_get, Bool, true, false, not, ◌&&◌, Option, Some, None, option_map, is_none, refl, ap, sym, subst, ◌∙◌, arith, IsSome}
 use Rattle.std.specs.Prelude.{count_by, IfSome}
 use Rattle.std.specs.Bool.{OnTrue, OnFalse}
 use Rattle.std.proofs.lemmas.Bool.{OnTrue_at, OnFalse_at, OnTrue_from}
 use Rattle.split_types.specs.declared.ids.Pid.{Pid}
+use Rattle.split_types.specs.declared.ids.ReqId.{ReqId}
 use Rattle.split_types.specs.declared.ids.Serial.{Serial}
 use Rattle.split_types.specs.declared.ids.Slot.{Slot}
 use Rattle.split_types.specs.declared.buf.Buf.TheVariants.{Page}
+use Rattle.split_types.specs.declared.request.Request.{Request}
 use Rattle.split_types.specs.declared.workload.Workload.{Workload}
 use Rattle.split_types.specs.declared.event.Event.{Event}
-use Rattle.split_types.specs.declared.event.Event.TheVariants.{Make, Put, Drop, Map}
+use Rattle.split_types.specs.declared.event.Event.TheVariants.{Make, Put, Drop, Map, Done}
 use Rattle.split_types.specs.History.{◌▹◌}
 use Rattle.split_types.specs.Workloads.{first_block}
 use Rattle.split_types.specs.Calls.{call_of, name_of}
+use Rattle.split_types.specs.Requests.{requests}
 use Rattle.split_types.specs.Pages.{is_dirty}
 use Rattle.split_types.specs.PagesInCache.{is_page_of}
 use Rattle.split_types.specs.FileMaps.{mapped_block, reserved_pages}
@@ -22,10 +25,13 @@ use Rattle.split_types.specs.Accepted.{IsAccepted}
 use Rattle.split_types.proofs.Shared.{data_from}
 use Rattle.small_fs.specs.Files.{next_file, with_file, changed}
 use Rattle.split_core.specs.declared.note.filing.Filing.{Filing}
+use Rattle.split_core.specs.declared.parts.Given.{Given}
+use Rattle.split_core.specs.Givens.{GivenDrop}
 use Rattle.split_core.specs.Fits.{Fits, MakeFits, MapFits, MapsKind}
-use Rattle.split_core.specs.Filing.{FilingStands, BlocksAre, MayMake, AreTaken, LetsGo, Takes}
+use Rattle.split_core.specs.Filing.{FilingStands, FilesAre, BlocksAre, MayMake, AreTaken, LetsGo, settles, Takes}
 use Rattle.split_core.proofs.FilingFilesNotes.{files_quiet, may_make, file_is, files_made, files_dropped, files_grown, files_mapped}
 use Rattle.split_core.proofs.FilingBlocks.{blocks_quiet, blocks_make, blocks_put}
+use Rattle.split_core.proofs.FilingBlocksSettles.{blocks_done}
 use Rattle.split_core.proofs.FilingBlocksDrops.{drop_taken, drop_once, drop_promised, blocks_drop}
 use Rattle.split_core.proofs.FilingBlocksMaps.{map_promised, blocks_map, blocks_map_old}
 
@@ -35,10 +41,26 @@ pub stands_quiet : (w : Workload) (h : List Event) (e : Event) (f : Filing) → 
     → ((by : Pid) (s : Serial) (g from to fill : ℕ) → e ≡ Put by s g from to fill → ⊥)
     → ((by : Pid) (slot : Slot) (serial : Serial) → e ≡ Drop by slot serial → ⊥)
     → ((slot : Slot) (s : Serial) (g n block : ℕ) (new : Bool) (size : ℕ) → e ≡ Map slot s g n block new size → ⊥)
+    → ((k : ℕ) (id : ReqId) (ok : Bool) → e ≡ Done k id ok → ⊥)
     → FilingStands w f h → FilingStands w f (h ▹ e)
-stands_quiet w h e f accepted fits make put drop mapped stands = record {
+stands_quiet w h e f accepted fits make put drop mapped done stands = record {
   files = files_quiet w h e f.fs make put drop mapped stands.files;
-  blocks = blocks_quiet w h e f.alloc accepted fits.legal fits make put drop mapped stands.blocks;
+  blocks = blocks_quiet w h e f.alloc accepted fits.legal fits make put drop mapped done stands.blocks;
+}
+
+-- ---- a request that is done
+-- files stay; blocks that wait for the transaction that it commits become free
+pub stands_done : (w : Workload) (h : List Event) (k : ℕ) (id : ReqId) (ok : Bool) (old new : Filing)
+    (request : Option Request) → IsAccepted w → Fits w h (Done k id ok) → FilingStands w old h
+    → request ≡ slice_get (requests h) id.0 → new.fs ≡ old.fs → new.alloc ≡ settles request old.alloc
+    → FilingStands w new (h ▹ Done k id ok)
+stands_done w h k id ok old new request accepted fits stands given files blocks = record {
+  files = subst (λ x. FilesAre w x (h ▹ Done k id ok)) (sym files)
+      (files_quiet w h (Done k id ok) old.fs (λ by slot s is. absurd (cc)) (λ by s g from to fill is. absurd (cc))
+      (λ by slot s is. absurd (cc)) (λ slot s g n block new size is. absurd (cc)) stands.files);
+  blocks = subst (λ a. BlocksAre w a (h ▹ Done k id ok))
+      (sym (blocks ∙ ap (λ o. settles o old.alloc) (given ∙ fits.kind.at)))
+      (blocks_done w h k id ok old.alloc accepted fits stands.blocks);
 }
 
 -- ---- a make
@@ -95,19 +117,21 @@ drop_may w h by slot serial f promised accepted fits stands given =
     }
 
 pub stands_drop : (w : Workload) (h : List Event) (by : Pid) (slot : Slot) (serial : Serial) (old new : Filing)
-    (promised : ℕ) → IsAccepted w → Fits w h (Drop by slot serial) → FilingStands w old h
-    → promised ≡ count_by (is_page_of serial) (reserved_pages w h)
+    (given : Given) → IsAccepted w → Fits w h (Drop by slot serial) → FilingStands w old h → GivenDrop w h serial given
     → new.fs ≡ record old.fs { slots = with_file slot.0 None old.fs.slots }
-    → IfSome (file_at old.fs.slots slot.0) (λ x. LetsGo old.alloc new.alloc (blocks_of x) promised)
+    → IfSome (file_at old.fs.slots slot.0)
+    (λ x. LetsGo old.alloc new.alloc given.next (blocks_of x) given.promised)
     → FilingStands w new (h ▹ Drop by slot serial)
-stands_drop w h by slot serial old new promised accepted fits stands given files blocks =
+stands_drop w h by slot serial old new given accepted fits stands is_given files blocks =
     let is = file_is w h slot serial old.fs accepted fits.legal.1 fits.kind stands.files
-    in let go : LetsGo old.alloc new.alloc (blocks_of (live_file w h serial)) promised =
-    subst (λ o. IfSome o (λ x. LetsGo old.alloc new.alloc (blocks_of x) promised)) is blocks
+    in let go : LetsGo old.alloc new.alloc given.next (blocks_of (live_file w h serial)) given.promised =
+    subst (λ o. IfSome o (λ x. LetsGo old.alloc new.alloc given.next (blocks_of x) given.promised)) is blocks
     in record {
       files = files_dropped w h by slot serial old.fs new.fs accepted fits.legal.1 fits.kind stands.files files;
-      blocks = blocks_drop w h by slot serial old.alloc new.alloc (record { 0 = 1 }) accepted fits.legal fits
-          stands.blocks go.count go.waits go.others (go.reserved ∙ ap (λ n. old.alloc.reserved - n) given);
+      blocks = blocks_drop w h by slot serial old.alloc new.alloc accepted fits.legal fits stands.blocks
+          (subst (λ t. LetsGo old.alloc new.alloc t (blocks_of (live_file w h serial))
+          (count_by (is_page_of serial) (reserved_pages w h))) is_given.next_is
+          (subst (LetsGo old.alloc new.alloc given.next (blocks_of (live_file w h serial))) is_given.promised_is go));
     }
 
 -- ---- a put

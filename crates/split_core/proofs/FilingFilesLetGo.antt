@@ -4,8 +4,9 @@ use Rattle.std.specs.Prelude.{slice_set, Option, None, IsSome, IfSome}
 use Rattle.std.proofs.lemmas.Bool.{cases_eq}
 use Rattle.std.proofs.lemmas.List.{length-set, get_or-set_same}
 use Rattle.std.proofs.lemmas.Option.{same_Some, slice_get-get_or, slice_get_within}
+use Rattle.split_types.specs.declared.ids.Txn.{Txn}
 use Rattle.split_types.specs.LiveFiles.{LiveFile, blocks_of}
-use Rattle.delayed_alloc.specs.Blocks.{Blocks, State, Taken, Waiting, state_at}
+use Rattle.delayed_alloc.specs.Blocks.{Blocks, Taken, Waiting, state_at}
 use Rattle.split_core.specs.Filing.{AreTaken, LetsGo}
 
 -- ---- one item
@@ -23,19 +24,15 @@ set_other (x ∷ xs) (suc i) zero y other = refl
 set_other (x ∷ xs) (suc i) (suc j) y other = set_other xs i j y (λ e. other (ap suc e))
 
 -- ---- the first blocks
--- what a block is used for that waits for the next seal
-abbrev pub waiting : State
-waiting = Waiting (record { 0 = 1 })
-
--- the first i of the blocks wait, and all others are as before
-pub record GoneTo (old new : Blocks) (gone : List ℕ) (i : ℕ) : Type 0 where
+-- the first i of the blocks wait for a transaction, and all others are as before
+pub record GoneTo (old new : Blocks) (t : Txn) (gone : List ℕ) (i : ℕ) : Type 0 where
   pub count : length new.states ≡ length old.states
   pub reserved : new.reserved ≡ old.reserved
-  pub waits : (k x : ℕ) → k < i → slice_get gone k ≡ Some x → state_at new x ≡ Some waiting
+  pub waits : (k x : ℕ) → k < i → slice_get gone k ≡ Some x → state_at new x ≡ Some (Waiting t)
   pub others : (x : ℕ) → ((k : ℕ) → k < i → slice_get gone k ≡ Some x → ⊥) → state_at new x ≡ state_at old x
 
-pub gone_none : (a : Blocks) (gone : List ℕ) → GoneTo a a gone 0
-gone_none a gone = record {
+pub gone_none : (a : Blocks) (t : Txn) (gone : List ℕ) → GoneTo a a t gone 0
+gone_none a t gone = record {
   count = refl;
   reserved = refl;
   waits = λ k x below at. absurd (omega (arith, below));
@@ -43,29 +40,29 @@ gone_none a gone = record {
 }
 
 -- the next is still taken
-pub still_taken : (old new : Blocks) (gone : List ℕ) (i x : ℕ) → AreTaken old gone → GoneTo old new gone i
-    → slice_get gone i ≡ Some x → state_at new x ≡ Some Taken
-still_taken old new gone i x are so_far at =
+pub still_taken : (old new : Blocks) (t : Txn) (gone : List ℕ) (i x : ℕ) → AreTaken old gone
+    → GoneTo old new t gone i → slice_get gone i ≡ Some x → state_at new x ≡ Some Taken
+still_taken old new t gone i x are so_far at =
     so_far.others x (λ k below is. omega (arith, below, are.once k i x is at)) ∙ are.taken i x at
 
-pub gone_more : (old new next : Blocks) (gone : List ℕ) (i x : ℕ) → AreTaken old gone → GoneTo old new gone i
-    → slice_get gone i ≡ Some x → next ≡ record new { states = slice_set new.states x waiting }
-    → GoneTo old next gone (i + 1)
-gone_more old new next gone i x are so_far at is =
-    let states : next.states ≡ slice_set new.states x waiting = ap (λ a. a.states) is
+pub gone_more : (old new next : Blocks) (t : Txn) (gone : List ℕ) (i x : ℕ) → AreTaken old gone
+    → GoneTo old new t gone i → slice_get gone i ≡ Some x
+    → next ≡ record new { states = slice_set new.states x (Waiting t) } → GoneTo old next t gone (i + 1)
+gone_more old new next t gone i x are so_far at is =
+    let states : next.states ≡ slice_set new.states x (Waiting t) = ap (λ a. a.states) is
     in let within : x < length new.states =
-    slice_get_within new.states x Taken (still_taken old new gone i x are so_far at)
+    slice_get_within new.states x Taken (still_taken old new t gone i x are so_far at)
     in record {
-      count = ap length states ∙ length-set new.states x waiting ∙ so_far.count;
+      count = ap length states ∙ length-set new.states x (Waiting t) ∙ so_far.count;
       reserved = ap (λ a. a.reserved) is ∙ so_far.reserved;
       waits = λ k y below here. elim (cases_eq y x) [
-        | inl same ↦ ap (λ l. slice_get l y) states ∙ ap (slice_get (slice_set new.states x waiting)) same
-            ∙ set_here new.states x waiting within
-        | inr other ↦ ap (λ l. slice_get l y) states ∙ set_other new.states x y waiting other
+        | inl same ↦ ap (λ l. slice_get l y) states ∙ ap (slice_get (slice_set new.states x (Waiting t))) same
+            ∙ set_here new.states x (Waiting t) within
+        | inr other ↦ ap (λ l. slice_get l y) states ∙ set_other new.states x y (Waiting t) other
             ∙ so_far.waits k y (earlier k y below here other) here
       ];
       others = λ y none. ap (λ l. slice_get l y) states
-          ∙ set_other new.states x y waiting (λ same. none i (omega arith) (at ∙ ap (λ z. Some z) (sym same)))
+          ∙ set_other new.states x y (Waiting t) (λ same. none i (omega arith) (at ∙ ap (λ z. Some z) (sym same)))
           ∙ so_far.others y (λ k below here. none k (omega (arith, below)) here);
     }
   where
@@ -75,9 +72,9 @@ gone_more old new next gone i x are so_far at is =
       | inr before ↦ omega (arith, below, before)
     ]
 
-pub gone_all : (old new : Blocks) (gone : List ℕ) (i : ℕ) → length gone ≤ i → GoneTo old new gone i
-    → LetsGo old new gone 0
-gone_all old new gone i all so_far = record {
+pub gone_all : (old new : Blocks) (t : Txn) (gone : List ℕ) (i : ℕ) → length gone ≤ i → GoneTo old new t gone i
+    → LetsGo old new t gone 0
+gone_all old new t gone i all so_far = record {
   count = so_far.count;
   waits = λ k x at. so_far.waits k x (omega (arith, all, slice_get_within gone k x at)) at;
   others = λ x none. so_far.others x (λ k below at. none k at);
@@ -85,9 +82,9 @@ gone_all old new gone i all so_far = record {
 }
 
 -- and so many promises are taken back
-pub promises_back : (old new last : Blocks) (gone : List ℕ) (n : ℕ) → LetsGo old new gone 0
-    → last.states ≡ new.states → last.reserved ≡ new.reserved - n → LetsGo old last gone n
-promises_back old new last gone n all states reserved = record {
+pub promises_back : (old new last : Blocks) (t : Txn) (gone : List ℕ) (n : ℕ) → LetsGo old new t gone 0
+    → last.states ≡ new.states → last.reserved ≡ new.reserved - n → LetsGo old last t gone n
+promises_back old new last t gone n all states reserved = record {
   count = ap length states ∙ all.count;
   waits = λ k x at. ap (λ l. slice_get l x) states ∙ all.waits k x at;
   others = λ x none. ap (λ l. slice_get l x) states ∙ all.others x none;

@@ -11,7 +11,9 @@ use Rattle.split_types.specs.declared.ids.Pid.{Pid}
 use Rattle.split_types.specs.declared.ids.Serial.{Serial}
 use Rattle.split_types.specs.declared.buf.Buf.{Buf}
 use Rattle.split_types.specs.declared.buf.Buf.TheVariants.{Page}
-use Rattle.split_types.specs.declared.actor.Actor.TheVariants.{Client, Wb}
+use Rattle.split_types.specs.declared.actor.Actor.TheVariants.{Client, Wb, Cm}
+use Rattle.split_types.specs.declared.request.ReqKind.{ReqKind}
+use Rattle.split_types.specs.declared.request.ReqKind.TheVariants as kind
 use Rattle.split_types.specs.declared.request.Run.{Run}
 use Rattle.split_types.specs.declared.call.Call.{Call}
 use Rattle.split_types.specs.declared.workload.Workload.{Workload}
@@ -28,13 +30,14 @@ use Rattle.split_types.specs.Serving.{request_for}
 use Rattle.split_types.specs.MapsInOrder.{IsServed}
 use Rattle.split_types.specs.Accepted.{IsAccepted}
 use Rattle.split_types.specs.Legal.{IsLegal}
-use Rattle.split_types.specs.Proving.Came.{IsAtPiece, IsAbsent, read_request}
-use Rattle.split_types.proofs.Shared.{known, maps_known, files_are_in_order, live_here}
+use Rattle.split_types.specs.Proving.Came.{IsAtPiece, IsAbsent, Journals, read_request, journal_request}
+use Rattle.split_types.proofs.Shared.{known, journal_known, maps_known, files_are_in_order, live_here}
 use Rattle.split_types.proofs.Shared.{among_at, any_counted, pages_are_known, free_is}
+use Rattle.split_types.proofs.JournalRows.{journal_run}
 use Rattle.split_types.proofs.SumLaws.{count_by_less}
 use Rattle.split_types.proofs.PromiseCounts.{count_both}
 use Rattle.split_types.proofs.MapFree.{is_free}
-use Rattle.split_core.specs.Fits.{HaveBlocks, MapsFree, AddFits}
+use Rattle.split_core.specs.Fits.{HaveBlocks, MapsFree, IsBelowData, AddsKind, AddFits}
 
 -- ---- pages that have blocks
 pub have_blocks : (w : Workload) (h : List Event) (s : Serial) (g n first : ℕ) → IsAccepted w → IsLegal w h → 1 ≤ n
@@ -207,4 +210,27 @@ load_fits w h by c s piece block accepted legal here absent at =
           free = absent.full;
         },
       );
+    }
+
+-- a request of the journal moves blocks below those of data
+journal_kind : (w : Workload) (h : List Event) (kind : ReqKind) (first n : ℕ) → Journals w h kind first n
+    → IsBelowData w n first → AddsKind w h Cm kind n first
+journal_kind w h (kind.Read p s g) first n next below = absurd (next)
+journal_kind w h (kind.Pages s g) first n next below = absurd (next)
+journal_kind w h (kind.Log t) first n next below = (refl, below)
+journal_kind w h (kind.Commit t) first n next below = (refl, below)
+journal_kind w h (kind.Home t) first n next below = (refl, below)
+journal_kind w h (kind.Clear t) first n next below = (refl, below)
+
+pub journal_fits : (w : Workload) (h : List Event) (kind : ReqKind) (first n : ℕ) → IsAccepted w → IsLegal w h
+    → Journals w h kind first n → AddFits w h Cm (journal_request (adds h) kind first n)
+journal_fits w h kind first n accepted legal next =
+    let f = known w h accepted legal
+    in let run = journal_run w h (adds h) kind first n (journal_known w h accepted legal) next
+    in record {
+      number = refl;
+      counted = f.numbered.counted;
+      unsent = f.unmade.cost_none (adds h) (omega arith);
+      undone = f.unmade.state_none (adds h) (omega arith);
+      kind = journal_kind w h kind first n next (record { some = run.some; most = run.most; within = run.within });
     }

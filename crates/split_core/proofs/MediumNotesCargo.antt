@@ -1,11 +1,8 @@
--- What a write request carries: whole blocks, each the bytes of a page as it was before the add. And no block is one of
--- two requests that wait.
-use Rattle.std.proofs.Common.{◌≡◌, ℕ, ◌+◌, ◌*◌, ◌<◌, ◌≤◌, List, length, slice_get, nat_le, nat_lt, true, false, ◌&&◌, ◌⊎◌, Some, refl, arith, subst, sym, inl, inr, ap, ◌∙◌, count_by}
-use Rattle.std.proofs.lemmas.Bool.{both_ways, and_from, le-leb, lt-ltb, cases_lt}
+-- What a write request carries: whole blocks, as they were settled by its add. And no block is one of two requests that
+-- wait.
+use Rattle.std.proofs.Common.{◌≡◌, ℕ, ◌+◌, ◌*◌, ◌<◌, ◌≤◌, List, length, slice_get, nat_le, nat_lt, true, ◌&&◌, ◌⊎◌, Some, refl, arith, subst, sym, inl, inr, ap, ◌∙◌, count_by}
+use Rattle.std.proofs.lemmas.Bool.{and_from, le-leb, lt-ltb, cases_lt}
 use Rattle.std.proofs.lemmas.Option.{slice_get_within, same_Some}
-use Rattle.split_types.specs.declared.ids.Pid.{Pid}
-use Rattle.split_types.specs.declared.ids.Serial.{Serial}
-use Rattle.split_types.specs.declared.request.ReqKind.TheVariants.{Read}
 use Rattle.split_types.specs.declared.request.Request.{Request}
 use Rattle.split_types.specs.declared.workload.Workload.{Workload}
 use Rattle.split_types.specs.declared.event.Event.{Event}
@@ -14,27 +11,16 @@ use Rattle.split_types.specs.Requests.{is_numbered, is_write, requests, queued, 
 use Rattle.split_types.specs.DiskBytes.{carried, adding, writes}
 use Rattle.split_types.specs.Accepted.{IsAccepted}
 use Rattle.split_types.specs.Legal.{IsLegal}
-use Rattle.split_types.specs.Proving.Known.{Known}
-use Rattle.split_types.specs.Proving.Runs.{MovesPages}
-use Rattle.split_types.proofs.Shared.{find_some, counted_here, any_counted, number_here, same_number, known, adding_kept, adding_there, before_legal, writes_apart, whole_page, MovesIn}
+use Rattle.split_types.specs.Proving.Known.{Known, HasRun}
+use Rattle.split_types.proofs.Shared.{find_some, counted_here, any_counted, number_here, same_number, known, adding_kept, adding_there, before_legal, writes_apart, has_run, journal_known}
 use Rattle.sim_disk.specs.Bytes.{block_of}
 use Rattle.sim_disk.specs.Medium.{InFlight}
 use Rattle.split_core.specs.Takings.{all_carried}
 use Rattle.split_core.specs.Medium.{carried_by, cargo, flying}
 use Rattle.split_core.proofs.MediumNotesLists.{blocks_long, block_joined}
+use Rattle.split_core.proofs.MediumNotesWhole.{carried_whole}
 
 -- ---- what a write carries
--- each block that it carries is whole
-carried_whole : (w : Workload) (before : List Event) (r : Request) (s : Serial) (g i : ℕ) → IsAccepted w
-    → IsLegal w before → MovesPages r.kind s g → is_write r ≡ true → length (carried w before r i) ≡ 4096
-carried_whole w before r s g i accepted legal (inl kind) writing =
-    rw kind (whole_page w before s (g + i) accepted legal)
-carried_whole w before r s g i accepted legal (inr (by, kind)) writing =
-    absurd (both_ways (is_write r) (reads by kind) writing)
-  where
-    reads : (by : Pid) → r.kind ≡ Read by s g → is_write r ≡ false
-    reads by kind = rw kind refl
-
 -- what a request that was added carries, if it writes
 pub record IsCargo (w : Workload) (h : List Event) (r : Request) : Type 0 where
   pub before : List Event
@@ -48,8 +34,7 @@ pub cargo_of : (w : Workload) (h : List Event) (r : Request) → IsAccepted w �
 cargo_of w h r accepted legal own writing =
     let add = adding_there w h r.id.0 r accepted legal own
     in let earlier : IsLegal w add.0 = before_legal w h r.id (record { request = r; before = add.0 }) legal add.1
-    in let run : MovesIn w h r = (known w h accepted legal).runs r.id.0 r own
-    in let each = λ (i : ℕ) (low : 0 ≤ i) (high : i < 0 + r.n). carried_whole w add.0 r run.serial run.page i accepted earlier run.kind writing
+    in let each = λ (i : ℕ) (low : 0 ≤ i) (high : i < 0 + r.n). carried_whole w add.0 r i accepted earlier writing
     in let is : cargo w h r.id ≡ all_carried w add.0 r = ap (carried_by w) add.1
     in record {
       before = add.0;
@@ -91,6 +76,11 @@ left_there w h r f own some =
     in let same : found.element ≡ r =
     same_number (requests h) (unfinished h) found.place found.element r f.waiting.left_of found.there own found.passes
     in (found.place, found.there ∙ ap Some same)
+
+-- a request moves a block at least
+some_blocks : (w : Workload) (h : List Event) (r : Request) → HasRun w h r → 1 ≤ r.n
+some_blocks w h r (inl run) = run.run.some
+some_blocks w h r (inr low) = low.some
 
 -- the request writes the block, since that is one of its own
 writes_own : (r : Request) (x : ℕ) → is_write r ≡ true → r.first ≤ x → x < r.first + r.n → writes r x ≡ true
@@ -152,4 +142,5 @@ requests_apart w h r q accepted legal two = elim (cases_lt q.first (r.first + r.
     own_flight e = (known w h accepted legal).waiting.flight_of two.flight_place q two.flying_at
 
     some : (z : Request) → slice_get (requests h) z.id.0 ≡ Some z → 1 ≤ z.n
-    some z own = ((known w h accepted legal).runs z.id.0 z own).run.some
+    some z own =
+        some_blocks w h z (has_run w h z.id.0 z (known w h accepted legal).runs (journal_known w h accepted legal) own)

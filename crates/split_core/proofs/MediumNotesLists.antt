@@ -15,10 +15,6 @@ pub read_at : {X : Type 0} (xs : List X) (i : ℕ) (x : X) → i < length xs →
 read_at xs i x below read =
     let there = some_at xs i below in there.1 ∙ ap Some (sym (read ∙ get_or_from_slice_get xs i there.0 x there.1))
 
-pub first_rest : {X : Type 0} (xs : List X) (x : X) → slice_get xs 0 ≡ Some x → xs ≡ x ∷ drop 1 xs
-first_rest [] x at = absurd (cc)
-first_rest (y ∷ ys) x at = cc
-
 pub map_within : {X Y : Type 0} (f g : X → Y) (xs : List X)
     → ((i : ℕ) (x : X) → slice_get xs i ≡ Some x → f x ≡ g x) → map f xs ≡ map g xs
 map_within f g [] same = refl

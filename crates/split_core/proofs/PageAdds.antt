@@ -61,7 +61,7 @@ load_of w h by r p s g q tags before is =
 
 pub after_load : (w : Workload) (h : List Event) (by : Actor) (r : Request) (p : Pid) (s : Serial) (g : ℕ)
     (q n : Kept) (tags : Tags) → PagesBefore w q tags h (Add by r) → r.kind ≡ Read p s g
-    → BeginsLoad q.cache n.cache (Page s g) p → PagesAfter w n tags (h ▹ Add by r)
+    → BeginsLoad q.cache n.cache (Page s g) p → PagesAfter w q n tags tags (h ▹ Add by r)
 after_load w h by r p s g q n tags before is begins =
     let of = load_of w h by r p s g q tags before is
     in record {
@@ -71,7 +71,7 @@ after_load w h by r p s g q n tags before is begins =
         arith,
         begins.page.tags i,
         ap (λ (x : Option Held). use_in same (tag_in x) i) of.empty,
-      )) before.tags;
+      ));
     }
 
 -- the process for which it reads is to blame

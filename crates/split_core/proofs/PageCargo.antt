@@ -27,7 +27,7 @@ use Rattle.split_types.specs.Accepted.{IsAccepted}
 use Rattle.split_types.specs.Legal.{IsLegal}
 use Rattle.split_types.proofs.Shared.{running_causes}
 use Rattle.split_types.proofs.Shared.{unsettled_are_held, loading_pages}
-use Rattle.cause_set.specs.Tags.{Tags}
+use Rattle.cause_set.specs.Tags.{Tags, Moved}
 use Rattle.page_cache.specs.Held.{Held}
 use Rattle.page_cache.specs.Cached as cached
 use Rattle.page_cache.specs.Cached.{Cached, page_of, causes_of}
@@ -35,12 +35,12 @@ use Rattle.page_cache.specs.Changes.{ChangesEach, IsReady, bytes_in, taken_among
 use Rattle.split_core.specs.declared.note.pages.Pages.{Pages as Kept}
 use Rattle.split_core.specs.declared.note.pages.Taken.{Taken}
 use Rattle.split_core.specs.Fits.{AddsKind, RunFits}
-use Rattle.split_core.specs.Pages.{CacheStands, PagesBefore, PagesAfter, TagsStand}
+use Rattle.split_core.specs.Pages.{CacheStands, PagesBefore, PagesAfter, held_by_pages}
 use Rattle.split_core.specs.Takings.{IsTaken}
 use Rattle.split_core.proofs.PageTakes.{TakesIs, pages_taken}
 
 -- ---- page by page
-map_pages : (f c : Buf → List ℕ) (s : Serial) (g n : ℕ) → ((k : ℕ) → f (Page s k) ≡ c (Page s k))
+pub map_pages : (f c : Buf → List ℕ) (s : Serial) (g n : ℕ) → ((k : ℕ) → f (Page s k) ≡ c (Page s k))
     → map f (pages_of s g n) ≡ map c (pages_of s g n)
 map_pages f c s g zero same = refl
 map_pages f c s g (suc n) same =
@@ -95,11 +95,11 @@ pub after_run : (w : Workload) (h : List Event) (by : Actor) (r : Request) (s : 
     (before after : Tags) → PagesBefore w q before h (Add by r) → r.kind ≡ Pages s g
     → ChangesEach q.cache n.cache (taken_among s g r.n)
     → ((b : Buf) → is_among s g r.n b ≡ false → causes_of after n.cache b ≡ causes_of before q.cache b)
-    → TagsStand n after → PagesAfter w n after (h ▹ Add by r)
-after_run w h by r s g q n before after b is each set tags = record {
+    → Moved before after (held_by_pages q) (held_by_pages n) → PagesAfter w q n before after (h ▹ Add by r)
+after_run w h by r s g q n before after b is each set moved = record {
   stands = pages_taken w h by r s g q.cache n.cache before after (run_of w h by r s g q before b is).takes each set
       b.stands;
-  tags = tags;
+  tags = moved;
 }
 
 -- ---- what is taken

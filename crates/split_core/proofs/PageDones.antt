@@ -117,9 +117,9 @@ loaded_tag bytes (Some y) = refl
 pub after_read_done : (w : Workload) (h : List Event) (e : Event) (r : Request) (p : Pid) (s : Serial) (g : ℕ)
     (m : Medium) (bytes : List ℕ) (q n : Kept) (tags : Tags) → PagesBefore w q tags h e → IsDoneOf h e r
     → r.kind ≡ Read p s g → MediumStands w m h → bytes ≡ block_at m.disk.blocks r.first
-    → Loads q.cache n.cache (Page s g) bytes → PagesAfter w n tags (h ▹ e)
+    → Loads q.cache n.cache (Page s g) bytes → PagesAfter w q n tags tags (h ▹ e)
 after_read_done w h e r p s g m bytes q n tags before done kind medium is loads =
-    after_as w n tags h e (Done d.k d.id d.ok) d.is (by_test (is_loading w h (Page s g)) refl)
+    after_as w q n tags tags h e (Done d.k d.id d.ok) d.is (by_test (is_loading w h (Page s g)) refl)
   where
     d : DoneOf w h e r
     d = done_of w h e r q tags before done
@@ -130,7 +130,7 @@ after_read_done w h e r p s g m bytes q n tags before done kind medium is loads 
     b : PagesBefore w q tags h (Done d.k d.id d.ok)
     b = before_as w q tags h e (Done d.k d.id d.ok) d.is before
 
-    by_test : (t : Bool) → is_loading w h (Page s g) ≡ t → PagesAfter w n tags (h ▹ Done d.k d.id d.ok)
+    by_test : (t : Bool) → is_loading w h (Page s g) ≡ t → PagesAfter w q n tags tags (h ▹ Done d.k d.id d.ok)
     by_test true loading =
         let live = (and_parts (is_live w h s.0) (list_any (λ x. reads x (Page s g)) (outstanding h)) loading).0
         in let was : is_loading_in (page_of q.cache (Page s g)) ≡ true = b.stands.loading_are s g ∙ loading
@@ -150,7 +150,7 @@ after_read_done w h e r p s g m bytes q n tags before done kind medium is loads 
             arith,
             (loads.page was).tags i,
             ap (λ (t : Option ℕ). use_in same t i) (loaded_tag bytes (page_of q.cache (Page s g))),
-          )) b.tags;
+          ));
         }
     by_test false unread =
         let same_cache : n.cache ≡ q.cache = loads.still (b.stands.loading_are s g ∙ unread)
@@ -166,5 +166,5 @@ after_read_done w h e r p s g m bytes q n tags before done kind medium is loads 
                 out = gone_out w h s g of.loading unread;
               })
               b.stands);
-          tags = tags_kept tags q.cache n.cache (λ i. ap (λ (c : Cached). held same (tags_in c) i) same_cache) b.tags;
+          tags = tags_kept tags q.cache n.cache (λ i. ap (λ (c : Cached). held same (tags_in c) i) same_cache);
         }

@@ -31,6 +31,7 @@ use Rattle.split_types.specs.Proving.Came.Came.{came_evict}
 use Rattle.split_types.specs.Proving.Runs.{MovesRun, MovesPages}
 use Rattle.split_types.proofs.Shared.{slice_get-push_new, same_buf-is, case_false, came, known}
 use Rattle.split_types.proofs.Shared.{written_page, among_at, read_moved, is_done, done_reads, victim_free}
+use Rattle.split_types.proofs.Shared.{covers_moves, reads_moves, is_known, flying}
 use Rattle.split_core.proofs.PageOrder.{same_buf-other}
 
 -- ---- what requests move has a block
@@ -114,7 +115,7 @@ hole_add : (w : Workload) (h : List Event) (by : Actor) (r : Request) (s : Seria
 hole_add w h by r s g accepted legal none old =
     let run = (known w (h ▹ Add by r) accepted legal).runs (length (requests h)) r (slice_get-push_new (requests h) r)
     in let free : covers r (Page s g) ≡ false =
-    false_from_ne_true (covers r (Page s g)) (λ is. (let at = written_mapped _ _ r s g run is
+    false_from_ne_true (covers r (Page s g)) (λ is. (let at = written_mapped _ _ r s g (run (covers_moves r (Page s g) is)) is
     in none_some (mapped_block w h s.0 g) at.0 none at.1))
     in (λ placed. ap (λ x. not x && is_put_since h (Page s g)) free ∙ old.0 placed, old.1)
 
@@ -123,9 +124,12 @@ hole_done : (w : Workload) (h : List Event) (k : ℕ) (id : ReqId) (s : Serial) 
     → IsHole w (h ▹ Done k id true) s g
 hole_done w h k id s g accepted legal none old =
     let d = is_done w h k id accepted legal
+    in let fly = flying w h k d.request (is_known w h accepted legal.1) d.flying
     in let out : is_read_of h id (Page s g) ≡ false =
-    false_from_ne_true (is_read_of h id (Page s g)) (λ is. (let at = read_mapped _ _ d.request s g d.run
-    (read_moved _ _ d.request (Page s g) d.run (done_reads w h k id (Page s g) accepted legal d is))
+    false_from_ne_true (is_read_of h id (Page s g))
+    (λ is. (let does = done_reads w h k id (Page s g) accepted legal d is
+    in let run = fly.run (reads_moves d.request (Page s g) does)
+    in let at = read_mapped _ _ d.request s g run (read_moved _ _ d.request (Page s g) run does)
     in none_some (mapped_block w h s.0 g) at.0 none at.1))
     in (
       λ placed. old.0 (sym (ap (λ x. x || is_placed h (Page s g)) out) ∙ placed),

@@ -10,20 +10,20 @@ use Rattle.split_types.specs.declared.workload.Workload.{Workload}
 use Rattle.split_types.specs.declared.event.Event.{Event}
 use Rattle.split_types.specs.declared.event.Event.TheVariants.{Get, Drop, Ret, Evict}
 use Rattle.split_types.specs.History.{◌▹◌}
-use Rattle.cause_set.specs.Tags.{Tags, Moved, held, same, use_in}
+use Rattle.cause_set.specs.Tags.{Tags, held, same, use_in}
 use Rattle.page_cache.specs.Cached.{Cached, page_of, is_loading, tags_in}
 use Rattle.page_cache.specs.Changes.{ChangesOnly, ChangesEach, Frees, KeepsTouches, IsVictim, unpinned}
 use Rattle.split_core.specs.declared.note.pages.Pages.{Pages}
 use Rattle.split_core.specs.Pages.{CacheStands, PagesBefore, PagesAfter, Gets}
 use Rattle.split_core.proofs.PageNotes.{pages_ret, pages_get, pages_hole}
-use Rattle.split_core.proofs.PageTags.{tags_moved}
+use Rattle.split_core.proofs.PageTags.{Moves, tags_kept}
 use Rattle.split_core.proofs.PageLoads.{none_held}
 use Rattle.split_core.proofs.PageDrops.{pages_drop}
 use Rattle.split_core.proofs.PageEvicts.{idle_rests, victim_is, pages_evict}
 
-pub after_as : (w : Workload) (p : Pages) (tags : Tags) (h : List Event) (e d : Event) → e ≡ d
-    → PagesAfter w p tags (h ▹ d) → PagesAfter w p tags (h ▹ e)
-after_as w p tags h e d is = subst (λ (x : Event). PagesAfter w p tags (h ▹ x)) (sym is)
+pub after_as : (w : Workload) (p q : Pages) (before after : Tags) (h : List Event) (e d : Event) → e ≡ d
+    → PagesAfter w p q before after (h ▹ d) → PagesAfter w p q before after (h ▹ e)
+after_as w p q before after h e d is = subst (λ (x : Event). PagesAfter w p q before after (h ▹ x)) (sym is)
 
 pub before_as : (w : Workload) (p : Pages) (tags : Tags) (h : List Event) (e d : Event) → e ≡ d
     → PagesBefore w p tags h e → PagesBefore w p tags h d
@@ -31,22 +31,23 @@ before_as w p tags h e d is = subst (PagesBefore w p tags h) is
 
 pub after_ret : (w : Workload) (h : List Event) (e : Event) (by : Pid) (reply : Reply) (p q : Pages) (tags : Tags)
     → e ≡ Ret by reply → PagesBefore w p tags h e → ChangesEach p.cache q.cache (λ k. unpinned by)
-    → tags_in q.cache ≡ tags_in p.cache → PagesAfter w q tags (h ▹ e)
+    → tags_in q.cache ≡ tags_in p.cache → PagesAfter w p q tags tags (h ▹ e)
 after_ret w h e by reply p q tags is before each same_tags =
     let b = before_as w p tags h e (Ret by reply) is before
-    in after_as w q tags h e (Ret by reply) is record {
+    in after_as w p q tags tags h e (Ret by reply) is record {
       stands = pages_ret w h by reply p.cache q.cache tags b.accepted b.fits.legal each b.stands;
-      tags = λ n. b.tags n ∙ ap (λ l. held same l n) (sym same_tags);
+      tags = tags_kept tags p.cache q.cache (λ n. ap (λ l. held same l n) same_tags);
     }
 
 pub after_get : (w : Workload) (h : List Event) (e : Event) (by : Pid) (s : Serial) (g from to sum : ℕ) (p q : Pages)
     (tags : Tags) → e ≡ Get by s g from to sum → PagesBefore w p tags h e → Gets p.cache q.cache (Page s g) by
-    → PagesAfter w q tags (h ▹ e)
+    → PagesAfter w p q tags tags (h ▹ e)
 after_get w h e by s g from to sum p q tags is before gets =
-    after_as w q tags h e (Get by s g from to sum) is record {
+    after_as w p q tags tags h e (Get by s g from to sum) is record {
       stands = by_held (is_some (page_of p.cache (Page s g))) refl;
-      tags = λ n. b.tags n ∙ ap (λ (c : Cached). held same (tags_in c) n) (sym gets.touches.rest)
-          ∙ ap (λ l. held same l n) (sym gets.tags);
+      tags = tags_kept tags p.cache q.cache
+          (λ n. ap (λ l. held same l n) gets.tags
+          ∙ ap (λ (c : Cached). held same (tags_in c) n) gets.touches.rest);
     }
   where
     b : PagesBefore w p tags h (Get by s g from to sum)
@@ -73,12 +74,12 @@ get_loaded w h e by s g from to sum p tags is before =
 -- ---- a drop
 pub after_drop : (w : Workload) (h : List Event) (e : Event) (by : Pid) (slot : Slot) (s : Serial) (p q : Pages)
     (before after : Tags) → e ≡ Drop by slot s → PagesBefore w p before h e → Frees before after p.cache q.cache s
-    → Moved before after (held same (tags_in p.cache)) (held same (tags_in q.cache)) → PagesAfter w q after (h ▹ e)
+    → Moves before after p.cache q.cache → PagesAfter w p q before after (h ▹ e)
 after_drop w h e by slot s p q before after is known frees moved =
     let b = before_as w p before h e (Drop by slot s) is known
-    in after_as w q after h e (Drop by slot s) is record {
+    in after_as w p q before after h e (Drop by slot s) is record {
       stands = pages_drop w h by slot s p.cache q.cache before after b.accepted b.fits.legal frees b.stands;
-      tags = tags_moved before after p.cache q.cache q.cache moved refl b.tags;
+      tags = moved;
     }
 
 pub evicts : (w : Workload) (h : List Event) (e : Event) (by : Pid) (s : Serial) (g : ℕ) (p : Pages) (tags : Tags)
@@ -89,11 +90,12 @@ evicts w h e by s g p tags is before =
 
 pub after_evict : (w : Workload) (h : List Event) (e : Event) (by : Pid) (s : Serial) (g : ℕ) (p q : Pages)
     (tags : Tags) → e ≡ Evict by s g → PagesBefore w p tags h e → ChangesOnly p.cache q.cache (Page s g) None
-    → KeepsTouches p.cache q.cache → PagesAfter w q tags (h ▹ e)
+    → KeepsTouches p.cache q.cache → PagesAfter w p q tags tags (h ▹ e)
 after_evict w h e by s g p q tags is before page keeps =
     let b = before_as w p tags h e (Evict by s g) is before
     in let rested = idle_rests (page_of p.cache (Page s g)) (evicts w h e by s g p tags is before).idle
-    in after_as w q tags h e (Evict by s g) is record {
+    in after_as w p q tags tags h e (Evict by s g) is record {
       stands = pages_evict w h by s g p.cache q.cache tags b.accepted b.fits.legal b.fits.kind page keeps b.stands;
-      tags = λ n. omega (arith, b.tags n, page.tags n, ap (λ (t : Option ℕ). use_in same t n) rested.clean);
+      tags = tags_kept tags p.cache q.cache
+          (λ n. omega (arith, page.tags n, ap (λ (t : Option ℕ). use_in same t n) rested.clean));
     }

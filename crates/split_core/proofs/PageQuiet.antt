@@ -124,6 +124,26 @@ pages_other w h Skip c tags accepted legal fits put get drop ret evict add done 
     })
     (λ t m. pins_change.change w h Skip (Page t m) accepted legal)
     (counts_change w h Skip accepted legal)) (λ t m there. refl) stands
+pages_other w h (Flushed p) c tags accepted legal fits put get drop ret evict add done stands =
+    pages_quiet w h (Flushed p) c tags accepted legal
+    (passes_one w h (Flushed p)
+    (λ t m. record {
+      page = pages_change w h (Flushed p) (Page t m) accepted legal;
+      causes_are = running_causes.kept h (Flushed p) (Page t m) refl refl;
+      bytes_are = refl;
+    })
+    (λ t m. pins_change.change w h (Flushed p) (Page t m) accepted legal)
+    (counts_change w h (Flushed p) accepted legal)) (λ t m there. refl) stands
+pages_other w h (Seal number k) c tags accepted legal fits put get drop ret evict add done stands =
+    pages_quiet w h (Seal number k) c tags accepted legal
+    (passes_one w h (Seal number k)
+    (λ t m. record {
+      page = pages_change w h (Seal number k) (Page t m) accepted legal;
+      causes_are = running_causes.kept h (Seal number k) (Page t m) refl refl;
+      bytes_are = refl;
+    })
+    (λ t m. pins_change.change w h (Seal number k) (Page t m) accepted legal)
+    (counts_change w h (Seal number k) accepted legal)) (λ t m there. refl) stands
 pages_other w h (Put by s g from to fill) c tags accepted legal fits put get drop ret evict add done stands =
     absurd (put _ _ _ _ _ _ refl)
 pages_other w h (Get by s g from to sum) c tags accepted legal fits put get drop ret evict add done stands =
@@ -138,9 +158,5 @@ pages_other w h (Done k id ok) c tags accepted legal fits put get drop ret evict
     absurd (done _ _ _ refl)
 pages_other w h (Drop by slot s) c tags accepted legal fits put get drop ret evict add done stands =
     absurd (drop _ _ _ refl)
-pages_other w h (Flushed p) c tags accepted legal fits put get drop ret evict add done stands =
-    absurd fits
-pages_other w h (Seal t k) c tags accepted legal fits put get drop ret evict add done stands =
-    absurd fits
 pages_other w h (Tick d) c tags accepted legal fits put get drop ret evict add done stands =
     absurd fits

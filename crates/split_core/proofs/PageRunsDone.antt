@@ -68,11 +68,11 @@ run_busy w h e r s g q tags before done is k below =
 
 pub after_run_done : (w : Workload) (h : List Event) (e : Event) (r : Request) (s : Serial) (g : ℕ) (q n : Kept)
     (tags : Tags) → PagesBefore w q tags h e → IsDoneOf h e r → r.kind ≡ Pages s g
-    → Releases q.cache n.cache s g r.n → PagesAfter w n tags (h ▹ e)
+    → Releases q.cache n.cache s g r.n → PagesAfter w q n tags tags (h ▹ e)
 after_run_done w h e r s g q n tags before done kind releases =
     let d = done_of w h e r q tags before done
     in let b = before_as w q tags h e (Done d.k d.id d.ok) d.is before
-    in after_as w n tags h e (Done d.k d.id d.ok) d.is record {
+    in after_as w q n tags tags h e (Done d.k d.id d.ok) d.is record {
       stands = pages_settled w h d.k d.id d.ok r s g q.cache n.cache tags
           (record {
             accepted = b.accepted;
@@ -81,5 +81,5 @@ after_run_done w h e r s g q n tags before done kind releases =
             kind = kind;
             busy = run_busy w h e r s g q tags before done kind;
           }) releases b.stands;
-      tags = tags_kept tags q.cache n.cache releases.tags b.tags;
+      tags = tags_kept tags q.cache n.cache releases.tags;
     }

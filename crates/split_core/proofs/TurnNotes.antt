@@ -9,7 +9,6 @@ use Rattle.std.proofs.lemmas.Option.{slice_get_past}
 use Rattle.std.proofs.lemmas.List.FromFn.{get_or-range_with_len, length-range_with_len}
 use Rattle.std.proofs.lemmas.List.{flat_map_more, drop_all, drop_more, replicate-append-replicate}
 use Rattle.split_types.specs.declared.actor.Actor.{Actor}
-use Rattle.split_types.specs.declared.actor.Actor.TheVariants.{Wb, Cm, Dq, Dn, Tk}
 use Rattle.split_types.specs.declared.workload.Go.{Go}
 use Rattle.split_types.specs.declared.workload.Workload.{Workload}
 use Rattle.split_types.specs.declared.event.Event.{Event}
@@ -20,7 +19,8 @@ use Rattle.split_types.specs.Calls.{returned, call_of}
 use Rattle.split_types.specs.Clients.{client_state, next_of_call}
 use Rattle.split_types.specs.Next.{next}
 use Rattle.split_types.specs.Accepted.{IsAccepted}
-use Rattle.split_types.specs.Legal.{IsLegal, is_finished, is_drained, first_next, turn_order, turn, drained_for, drain}
+use Rattle.split_types.specs.Calls.{is_finished}
+use Rattle.split_types.specs.Legal.{IsLegal, is_drained, first_next, turn_order, turn, drained_for, drain}
 use Rattle.split_types.specs.Legal.{play}
 use Rattle.split_types.proofs.Shared.{take_at_some, maker_is, never_stuck}
 use Rattle.split_core.specs.declared.step.Step.{Step}

@@ -10,7 +10,7 @@ use Rattle.split_types.specs.Calls.{returned, is_entered, is_admitted, has_acted
 use Rattle.split_types.specs.Files.{bound_file}
 use Rattle.split_types.specs.FileSizes.{size_at_admit}
 use Rattle.split_types.specs.Pieces.{got}
-use Rattle.split_types.specs.Legal.{is_finished}
+use Rattle.split_types.specs.Calls.{is_finished}
 use Rattle.split_core.specs.Awaits.{awaits}
 use Rattle.split_core.specs.declared.note.clients.Client.{Client}
 use Rattle.split_core.specs.declared.note.clients.Clients.{Clients}

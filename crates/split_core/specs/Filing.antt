@@ -1,16 +1,20 @@
 -- What the files and blocks that are kept have to do with a history.
-use Rattle.std.specs.Prelude.{◌≡◌, ℕ, ◌-◌, ◌<◌, List, length, slice_get, nat_le, Bool, false, not, ◌&&◌, ◌||◌, Option, Some, None, IsTrue, IsSome}
+use Rattle.std.specs.Prelude.{◌≡◌, ℕ, ◌-◌, ◌<◌, List, length, map, slice_get, nat_le, Bool, false, not, ◌&&◌, ◌||◌, Option, Some, None, IsTrue, IsSome}
+use Rattle.split_types.specs.declared.ids.Txn.{Txn}
 use Rattle.split_types.specs.declared.call.Call.{Call}
+use Rattle.split_types.specs.declared.request.ReqKind.{ReqKind}
+use Rattle.split_types.specs.declared.request.ReqKind.TheVariants.{Commit}
+use Rattle.split_types.specs.declared.request.Request.{Request}
 use Rattle.split_types.specs.declared.workload.Workload.{Workload}
 use Rattle.split_types.specs.declared.event.Event.{Event}
 use Rattle.split_types.specs.Workloads.{first_block}
-use Rattle.split_types.specs.FileMaps.{is_taken, is_waiting, reserved_pages}
+use Rattle.split_types.specs.FileMaps.{is_in_map, is_taken, is_waiting, is_going, drop_txn, reserved_pages}
 use Rattle.split_types.specs.FileSlots.{live_files, next_serial}
 use Rattle.split_types.specs.FileSizes.{size_of_some}
 use Rattle.split_types.specs.Files.{file_for}
 use Rattle.split_types.specs.LiveFiles.{LiveFile, slot_named}
 use Rattle.small_fs.specs.Files.{Files, next_file}
-use Rattle.delayed_alloc.specs.Blocks.{Blocks, State, Taken, Waiting, state_at, is_free, IsLeastRun, TakesRun}
+use Rattle.delayed_alloc.specs.Blocks.{Blocks, State, Taken, Waiting, state_at, is_free, settled, IsLeastRun, TakesRun}
 use Rattle.split_core.specs.declared.note.filing.Filing.{Filing}
 
 -- the files that are there stand in their slots
@@ -28,12 +32,16 @@ abbrev pub says_free : Option State → Bool
 says_free None = false
 says_free (Some s) = is_free s
 
--- the blocks that are free are kept as free, and those in the maps of files that are there as taken; as many free blocks
--- are promised as pages wait for one
+-- the blocks that are free are kept as free, and those in the maps of files that are there as taken; those that a
+-- dropped file had wait for the transaction that takes its drop, until that is committed, and no others do; as many free
+-- blocks are promised as pages wait for one
 pub record BlocksAre (w : Workload) (a : Blocks) (h : List Event) : Type 0 where
   pub count : length a.states ≡ w.device
   pub free : (x : ℕ) → x < w.device → says_free (state_at a x) ≡ is_free_block w h x
   pub taken : (x : ℕ) → IsTrue (is_taken w h x) → state_at a x ≡ Some Taken
+  pub waits : (s x : ℕ) (t : Txn) → IsTrue (is_going h s) → drop_txn h s ≡ Some t → IsTrue (is_in_map w h s x)
+      → state_at a x ≡ Some (Waiting t)
+  pub gone : (x : ℕ) (t : Txn) → state_at a x ≡ Some (Waiting t) → IsTrue (is_waiting w h x)
   pub reserved : a.reserved ≡ length (reserved_pages w h)
 
 pub record FilingStands (w : Workload) (f : Filing) (h : List Event) : Type 0 where
@@ -63,12 +71,20 @@ pub record AreTaken (a : Blocks) (blocks : List ℕ) : Type 0 where
   pub taken : (k x : ℕ) → slice_get blocks k ≡ Some x → state_at a x ≡ Some Taken
   pub once : (i j x : ℕ) → slice_get blocks i ≡ Some x → slice_get blocks j ≡ Some x → i ≡ j
 
--- these blocks wait for the next seal, all others stay, and so many promises are taken back
-pub record LetsGo (old new : Blocks) (gone : List ℕ) (promised : ℕ) : Type 0 where
+-- these blocks wait for a transaction, all others stay, and so many promises are taken back
+pub record LetsGo (old new : Blocks) (t : Txn) (gone : List ℕ) (promised : ℕ) : Type 0 where
   pub count : length new.states ≡ length old.states
-  pub waits : (k x : ℕ) → slice_get gone k ≡ Some x → state_at new x ≡ Some (Waiting (record { 0 = 1 }))
+  pub waits : (k x : ℕ) → slice_get gone k ≡ Some x → state_at new x ≡ Some (Waiting t)
   pub others : (x : ℕ) → ((k : ℕ) → slice_get gone k ≡ Some x → ⊥) → state_at new x ≡ state_at old x
   pub reserved : new.reserved ≡ old.reserved - promised
+
+-- the blocks once a request is done: those that wait for the transaction that it commits, if it does, are free
+abbrev pub settles : Option Request → Blocks → Blocks
+settles None a = a
+settles (Some r) a = by_kind r.kind where
+  by_kind : ReqKind → Blocks
+  by_kind (Commit t) = record a { states = map (settled t) a.states }
+  by_kind _ = a
 
 -- the first free blocks for n pages are taken
 pub record Takes (old new : Blocks) (n : ℕ) : Type 0 where

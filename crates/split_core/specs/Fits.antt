@@ -1,16 +1,17 @@
 -- What is known of an event that comes next in a legal history, by its kind: its numbers are those of the workload, and
 -- what it adds up fits.
-use Rattle.std.specs.Prelude.{◌≡◌, ℕ, ◌+◌, ◌^◌, ◌<◌, ◌≤◌, ◌==◌, List, [], ◌∷◌, ◌++◌, length, drop, remove}
+use Rattle.std.specs.Prelude.{◌≡◌, ℕ, ◌+◌, ◌^◌, ◌<◌, ◌≤◌, ◌==◌, List, [], ◌∷◌, ◌++◌, length, find, remove}
 use Rattle.std.specs.Prelude.{slice_get, Some, None, is_none, Bool, true, false, not, ◌&&◌, ◌||◌, IsTrue, IsFalse}
 use Rattle.std.specs.List.{list_any}
 use Rattle.split_types.specs.declared.ids.Pid.{Pid}
 use Rattle.split_types.specs.declared.ids.Serial.{Serial}
 use Rattle.split_types.specs.declared.ids.Slot.{Slot}
 use Rattle.split_types.specs.declared.ids.ReqId.{ReqId}
+use Rattle.split_types.specs.declared.ids.Txn.{Txn}
 use Rattle.split_types.specs.declared.buf.Buf.{Buf}
 use Rattle.split_types.specs.declared.buf.Buf.TheVariants.{Page}
 use Rattle.split_types.specs.declared.actor.Actor.{Actor}
-use Rattle.split_types.specs.declared.actor.Actor.TheVariants.{Client, Wb}
+use Rattle.split_types.specs.declared.actor.Actor.TheVariants.{Client, Wb, Cm}
 use Rattle.split_types.specs.declared.request.ReqKind.{ReqKind}
 use Rattle.split_types.specs.declared.request.ReqKind.TheVariants.{Read, Pages}
 use Rattle.split_types.specs.declared.request.Request.{Request}
@@ -20,10 +21,13 @@ use Rattle.split_types.specs.declared.call.Call.TheVariants.{Creat}
 use Rattle.split_types.specs.declared.facts.ReqState.TheVariants.{Queued}
 use Rattle.split_types.specs.declared.workload.Workload.{Workload}
 use Rattle.split_types.specs.declared.event.Event.{Event}
-use Rattle.split_types.specs.declared.event.Event.TheVariants.{Enter, Admit, Make, Put, Get, Drop, Ret, Serve, Map, Skip, Add, Send, Done, Evict}
+use Rattle.split_types.specs.declared.event.Event.TheVariants.{Enter, Admit, Make, Put, Get, Drop, Flushed, Ret, Serve, Map, Skip, Seal, Add, Send, Done, Evict, Tick}
 use Rattle.split_types.specs.History.{◌▹◌, adds}
 use Rattle.split_types.specs.Hooks.{maker, covers}
-use Rattle.split_types.specs.Requests.{requests, queued, in_flight, unfinished, state_of}
+use Rattle.split_types.specs.Rounds.{seals, next_txn}
+use Rattle.split_types.specs.Schedulers.{pick}
+use Rattle.split_types.specs.Committing.{next_of_commit}
+use Rattle.split_types.specs.Requests.{is_write, requests, queued, in_flight, unfinished, state_of}
 use Rattle.split_types.specs.CostAndClock.{head, cost_of, now}
 use Rattle.split_types.specs.Blame.{tag}
 use Rattle.split_types.specs.Sets.{has}
@@ -145,11 +149,17 @@ pub record LoadFits (w : Workload) (h : List Event) (s : Serial) (g n first : �
   pub absent : IsFalse (is_held w h (Page s g))
   pub free : IsFalse (is_full w h)
 
--- what is asked of an added request, by its kind; no other kind comes next
+-- some blocks below those of data
+pub record IsBelowData (w : Workload) (n first : ℕ) : Type 0 where
+  pub some : 1 ≤ n
+  pub most : n ≤ 262
+  pub within : first + n ≤ first_block w
+
+-- what is asked of an added request, by its kind: all others are of the commit thread
 abbrev pub AddsKind : Workload → List Event → Actor → ReqKind → ℕ → ℕ → Type 0
 AddsKind w h by (Pages s g) n first = (by ≡ Wb) × RunFits w h s g n first
 AddsKind w h by (Read p s g) n first = (by ≡ Client p) × LoadFits w h s g n first
-AddsKind w h by _ n first = ⊥
+AddsKind w h by _ n first = (by ≡ Cm) × IsBelowData w n first
 
 -- a request of which nothing is known yet
 pub record AddFits (w : Workload) (h : List Event) (by : Actor) (r : Request) : Type 0 where
@@ -159,7 +169,7 @@ pub record AddFits (w : Workload) (h : List Event) (by : Actor) (r : Request) : 
   pub undone : state_of h (adds h) ≡ Queued
   pub kind : AddsKind w h by r.kind r.n r.first
 
--- the first of the queued requests
+-- the request that the scheduler picks among those that are queued; a write is the first of those
 pub record SendFits (w : Workload) (h : List Event) (id : ReqId) (cost : ℕ) : Type 0 where
   pub added : id.0 < adds h
   pub request : Request
@@ -167,8 +177,12 @@ pub record SendFits (w : Workload) (h : List Event) (id : ReqId) (cost : ℕ) : 
   pub numbered : request.id ≡ id
   pub cost_is : cost ≡ cost_of (h ▹ Send id cost) id.0
   pub free : length (in_flight h) < w.depth
-  pub first : slice_get (queued h) 0 ≡ Some request
-  pub rest : drop 1 (queued h) ≡ queued (h ▹ Send id cost)
+  pub picked : pick w h ≡ Some request
+  pub place : ℕ
+  pub queued_at : slice_get (queued h) place ≡ Some request
+  pub rest : remove (queued h) place ≡ queued (h ▹ Send id cost)
+  -- a write is the first of the writes that are queued
+  pub in_turn : IsTrue (is_write request) → find is_write (queued h) ≡ Some request
   pub flies : in_flight (h ▹ Send id cost) ≡ in_flight h ++ request ∷ []
   pub end_is : request.first + request.n ≡ head (h ▹ Send id cost)
   pub end_most : request.first + request.n ≤ 32768
@@ -179,12 +193,12 @@ Frees h e r = (b : Buf) → list_any (λ q. covers q b) (unfinished (h ▹ e))
     ≡ (not (covers r b) && list_any (λ q. covers q b) (unfinished h))
 
 -- what is asked of a request that is done, by its kind: a run of pages with their blocks, whose file may be gone, or one
--- such page, which is loading where its file is there
+-- such page, which is loading where its file is there, or blocks below those of data
 abbrev pub DoneKind : Workload → List Event → ReqKind → ℕ → ℕ → Type 0
 DoneKind w h (Pages s g) n first = HaveBlocks w h s g n first
 DoneKind w h (Read p s g) n first =
     (n ≡ 1) × HaveBlocks w h s g n first × (IsTrue (is_live w h s.0) → IsTrue (is_loading w h (Page s g)))
-DoneKind w h _ n first = ⊥
+DoneKind w h _ n first = IsBelowData w n first
 
 -- one of the requests in flight, which is done well
 pub record DoneFits (w : Workload) (h : List Event) (k : ℕ) (id : ReqId) (ok : Bool) : Type 0 where
@@ -201,7 +215,13 @@ pub record DoneFits (w : Workload) (h : List Event) (k : ℕ) (id : ReqId) (ok :
   pub payers : (p : ℕ) → IsTrue (has (tag h id.0) p) → (1 ≤ p) × (p ≤ length w.procs)
   pub bill_is : (p : ℕ) → bill w h id.0 p ≡ share_of (cost_of h id.0) (tag h id.0) p
 
--- what is known of an event by its kind; no other kind comes next
+-- a seal takes the next number, which fits
+pub record SealFits (w : Workload) (h : List Event) (t : Txn) (k : ℕ) : Type 0 where
+  pub number : t ≡ next_txn h
+  pub few : seals h < 2 ^ 31
+  pub next : next_of_commit w h ≡ Some (Seal t k)
+
+-- what is known of an event by its kind; no time passes without a request
 abbrev pub FitsKind : Workload → List Event → Event → Type 0
 FitsKind w h (Enter p k) = Unit {0}
 FitsKind w h (Admit p) = Unit {0}
@@ -209,15 +229,17 @@ FitsKind w h (Make by slot serial) = MakeFits w h by slot serial
 FitsKind w h (Put by s g from to fill) = PutFits w h by s g from to fill
 FitsKind w h (Get by s g from to sum) = GetFits w h by s g from to sum
 FitsKind w h (Drop by slot serial) = DropFits w h slot serial
+FitsKind w h (Flushed p) = Unit {0}
 FitsKind w h (Ret p r) = Unit {0}
 FitsKind w h (Serve s g n) = Unit {0}
 FitsKind w h (Map slot s g n block new size) = MapFits w h slot s g n block new size
 FitsKind w h Skip = Unit {0}
+FitsKind w h (Seal t k) = SealFits w h t k
 FitsKind w h (Add by r) = AddFits w h by r
 FitsKind w h (Send id cost) = SendFits w h id cost
 FitsKind w h (Done k id ok) = DoneFits w h k id ok
 FitsKind w h (Evict by s g) = victim w h ≡ Some (Page s g)
-FitsKind w h _ = ⊥
+FitsKind w h (Tick d) = ⊥
 
 pub record Fits (w : Workload) (h : List Event) (e : Event) : Type 0 where
   pub legal : IsLegal w (h ▹ e)

@@ -1,6 +1,7 @@
 -- What the parts hand to each other with an event, by its kind.
 use Rattle.std.specs.Prelude.{◌≡◌, ℕ, List, count_by, slice_get, is_none, not, ◌&&◌}
 use Rattle.split_types.specs.declared.ids.Pid.{Pid}
+use Rattle.split_types.specs.declared.ids.Serial.{Serial}
 use Rattle.split_types.specs.declared.buf.Buf.TheVariants.{Page}
 use Rattle.split_types.specs.declared.workload.Workload.{Workload}
 use Rattle.split_types.specs.declared.event.Event.{Event}
@@ -8,6 +9,7 @@ use Rattle.split_types.specs.declared.event.Event.TheVariants.{Admit, Make, Put,
 use Rattle.split_types.specs.Requests.{requests}
 use Rattle.split_types.specs.CostAndClock.{cost_of}
 use Rattle.split_types.specs.Blame.{tag}
+use Rattle.split_types.specs.Rounds.{next_txn}
 use Rattle.split_types.specs.Calls.{call_of, name_of}
 use Rattle.split_types.specs.Files.{file_for}
 use Rattle.split_types.specs.FileSizes.{size_of_some}
@@ -28,14 +30,19 @@ pub record GivenDone (w : Workload) (h : List Event) (id : ℕ) (g : Given) : Ty
   pub cost_is : g.cost ≡ cost_of h id
   pub tag_is : g.tag ≡ tag h id
 
+-- of a drop to how many pages of the file a free block is promised, and the transaction that takes the drop
+pub record GivenDrop (w : Workload) (h : List Event) (s : Serial) (g : Given) : Type 0 where
+  pub promised_is : g.promised ≡ count_by (is_page_of s) (reserved_pages w h)
+  pub next_is : g.next ≡ next_txn h
+
 -- of a make the name that its call names; of a put whether a free block is to be promised to its page, which becomes
--- dirty and has none; of a drop to how many pages of the file one is promised
+-- dirty and has none
 abbrev pub IsGiven : Workload → List Event → Event → Given → Type 0
 IsGiven w h (Admit p) g = GivenAdmit w h p g
 IsGiven w h (Make by slot serial) g = g.name ≡ option_map name_of (call_of w h by.0)
 IsGiven w h (Put by s page from to fill) g =
     g.promise ≡ (not (is_dirty w h (Page s page)) && is_none (mapped_block w h s.0 page))
-IsGiven w h (Drop by slot s) g = g.promised ≡ count_by (is_page_of s) (reserved_pages w h)
+IsGiven w h (Drop by slot s) g = GivenDrop w h s g
 IsGiven w h (Send id cost) g = g.request ≡ slice_get (requests h) id.0
 IsGiven w h (Done k id ok) g = GivenDone w h id.0 g
 IsGiven w h _ g = Unit {0}

@@ -12,6 +12,7 @@ pub mod Takings
 pub mod Cargo
 pub mod Medium
 pub mod Served
+pub mod Journaling
 pub mod Time
 pub mod Money
 pub mod Counts

@@ -15,7 +15,8 @@ use Rattle.split_types.specs.Victims.{last_touch}
 use Rattle.split_types.specs.PageBytes.{page_bytes}
 use Rattle.split_types.specs.PagesInCache.{IsThere, pin_of}
 use Rattle.split_types.specs.Accepted.{IsAccepted}
-use Rattle.cause_set.specs.Tags.{Tags, held, same}
+use Rattle.cause_set.specs.Tags.{Tags, Moved, held, same}
+use Rattle.journal_core.specs.Causes.{Covered}
 use Rattle.page_cache.specs.Cached as cached
 use Rattle.page_cache.specs.Cached.{Cached}
 use Rattle.page_cache.specs.Changes.{ChangesOnly, ChangesEach, Touches, KeepsTouches, bytes_in, loaded, written, unpinned}
@@ -54,9 +55,9 @@ pub record CacheStands (w : Workload) (c : Cached) (tags : Tags) (h : List Event
 abbrev pub PagesStand : Workload → Pages → Tags → List Event → Type 0
 PagesStand w p tags h = CacheStands w p.cache tags h
 
--- the tags that are in use are those of pages
-abbrev pub TagsStand : Pages → Tags → Type 0
-TagsStand p tags = (n : ℕ) → tags.uses n ≡ held same (cached.tags_in p.cache) n
+-- the uses of tags that pages hold
+abbrev pub held_by_pages : Pages → ℕ → ℕ
+held_by_pages p n = held same (cached.tags_in p.cache) n
 
 -- there is room for one more event
 pub record HasPagesRoom (p : Pages) (store : Tags) : Type 0 where
@@ -67,14 +68,14 @@ pub record HasPagesRoom (p : Pages) (store : Tags) : Type 0 where
 pub record PagesBefore (w : Workload) (p : Pages) (store : Tags) (h : List Event) (e : Event) : Type 0 where
   pub accepted : IsAccepted w
   pub stands : PagesStand w p store h
-  pub tags : TagsStand p store
+  pub tags : Covered (held_by_pages p) store
   pub fits : Fits w h e
   pub room : asks e ≡ true → HasPagesRoom p store
 
--- after it: the cache stands for the history with it
-pub record PagesAfter (w : Workload) (p : Pages) (store : Tags) (h : List Event) : Type 0 where
-  pub stands : PagesStand w p store h
-  pub tags : TagsStand p store
+-- after it: the cache stands for the history with it, and tags came and went with their pages
+pub record PagesAfter (w : Workload) (old new : Pages) (before after : Tags) (h : List Event) : Type 0 where
+  pub stands : PagesStand w new after h
+  pub tags : Moved before after (held_by_pages old) (held_by_pages new)
 
 -- the request is the one that the event says is done
 abbrev pub IsDoneOf : List Event → Event → Request → Type 0

@@ -72,7 +72,8 @@ impl Core {
         &self.parts.book.entry(&self.history, id).tag
     }
 
-    /// Whether all calls have returned, no request is queued or in flight, and no page is dirty.
+    /// Whether all calls have returned, no request is queued or in flight, no page is dirty, no buffer of metadata is
+    /// marked, and no transaction is in the journal.
     pub fn drained(&self) -> bool
         ensures { result ≡ is_drained self.now.workload self.now.history }
     {
@@ -83,7 +84,11 @@ impl Core {
         if !parts.dispatch.is_empty() {
             return false;
         }
-        parts.pages.cache.first_dirty().is_none()
+        if parts.pages.cache.first_dirty().is_some() {
+            return false;
+        }
+        let journal = &parts.journaling.journal;
+        !journal.can_seal() && journal.next_request(true).is_none()
     }
 
     /// What a report shows.

@@ -1,12 +1,14 @@
 //! What each actor does next.
-ghost use Rattle.std.specs.Prelude.{◌≡◌, ◌≤◌, length, is_some};
+ghost use Rattle.std.specs.Prelude.{◌≡◌, ◌≤◌, length, is_some, false};
 ghost use Rattle.split_types.specs.FileSizes.{if_live};
 ghost use Rattle.split_types.specs.Next.{next_of_dispatcher, next_of_completion, next};
 ghost use Rattle.split_core.specs.Clients.{IsProgress};
+ghost use Rattle.split_core.specs.Dispatch.{is_ordered_done};
 
 use crate::machine::Core;
 use client_calls::{ClientView, Progress, next_event};
 use cost_model::cost;
+use sched_api::{FifoSched, SchedView, SplitSched};
 use split_types::{Actor, Event, Pid, ReqId, Serial};
 
 impl Core {
@@ -60,13 +62,32 @@ impl Core {
             mapped: self.mapped(),
             progress: self.progress(p),
             may_admit: true,
+            flushable: false,
+            committed: false,
             next_id: ReqId(self.parts.book.entries.len() as u32),
         };
         next_event(p, &view)
     }
 
-    /// The next event of the dispatcher: where fewer requests than the depth are in flight, the oldest queued
-    /// one is sent.
+    /// What the scheduler sees.
+    fn sched_view(&self) -> SchedView<'_>
+        ensures stopped { result.stopped ≡ false }
+        ensures ordered { result.ordered_done ≡ is_ordered_done self.now.history }
+    {
+        SchedView {
+            clock: self.parts.time.clock,
+            stopped: false,
+            ordered_done: self.parts.dispatch.is_ordered_done(),
+            waiting: &[],
+            syncing: &[],
+            billed: &[],
+            billing: &[],
+            balances: &[],
+        }
+    }
+
+    /// The next event of the dispatcher: where fewer requests than the depth are in flight, the one is sent that the
+    /// scheduler picks.
     fn next_of_dispatcher(&self) -> Option<Event>
         ensures { result ≡ next_of_dispatcher self.now.workload self.now.history }
     {
@@ -74,9 +95,10 @@ impl Core {
         if queue.in_flight() >= self.workload.depth {
             return None;
         }
-        let request = queue.queued().first()?;
+        let id = FifoSched.pick(queue, &self.sched_view())?;
+        let request = &self.parts.book.entry(&self.history, id).request;
         Some(Event::Send {
-            id: request.id,
+            id,
             cost: cost(self.parts.time.head, request.first, request.n),
         })
     }
@@ -110,9 +132,10 @@ impl Core {
                 }
             }
             Actor::Wb => self.next_of_writeback(),
+            Actor::Cm => self.next_of_commit(),
             Actor::Dq => self.next_of_dispatcher(),
             Actor::Dn(k) => self.next_of_completion(k),
-            Actor::Cm | Actor::Tk => None,
+            Actor::Tk => None,
         }
     }
 }

@@ -1,5 +1,5 @@
 //! The parts together, and what one hands to another.
-ghost use Rattle.std.specs.Prelude.{◌≡◌, ◌<◌, ◌&&◌, List, [], true, Some, None, not, is_none, count_by, IfOk, OnOk};
+ghost use Rattle.std.specs.Prelude.{◌≡◌, ℕ, ◌+◌, ◌^◌, ◌<◌, ◌&&◌, length, List, [], true, Some, None, not, is_none, count_by, IfOk, OnOk};
 ghost use Rattle.std.specs.Option.{option_copied, option_map};
 ghost use Rattle.split_types.specs.declared.workload.Workload.{Workload};
 ghost use Rattle.split_types.specs.declared.event.Event.{Event};
@@ -17,7 +17,7 @@ ghost use Rattle.split_types.specs.Accepted.{IsAccepted};
 ghost use Rattle.split_core.specs.Plans.{PlanStands};
 ghost use Rattle.split_core.specs.Asks.{asks};
 ghost use Rattle.split_core.specs.Fits.{ClientFits, DropFits, IsFilePage, Fits};
-ghost use Rattle.split_core.specs.Givens.{IsGiven, GivenDone};
+ghost use Rattle.split_core.specs.Givens.{IsGiven, GivenDrop, GivenDone};
 ghost use Rattle.tag_table.specs.Tags.{tags_of};
 ghost use Rattle.split_core.specs.Book.{BookStands};
 ghost use Rattle.split_core.specs.Clients.{ClientsStand};
@@ -25,31 +25,37 @@ ghost use Rattle.split_core.specs.Counts.{CountsStand};
 ghost use Rattle.split_core.specs.Filing.{FilingStands};
 ghost use Rattle.split_core.specs.Medium.{MediumStands};
 ghost use Rattle.split_core.specs.Money.{MoneyStands};
-ghost use Rattle.split_core.specs.Pages.{PagesStand, TagsStand};
-ghost use Rattle.split_core.specs.StandsFor.{PartsStand, HasRoom};
+ghost use Rattle.split_core.specs.Pages.{PagesStand, held_by_pages};
+ghost use Rattle.split_core.specs.Journaling.{JournalStands, held_by_journal};
+ghost use Rattle.split_core.specs.Served.{ServedStands};
+ghost use Rattle.split_core.specs.Takings.{Brings, IsTaken, is_commit_add};
+ghost use Rattle.split_core.specs.StandsFor.{PartsStand, TagsStand, HasRoom};
+ghost use Rattle.cause_set.specs.Tags.{Tags};
 
 use crate::note::book::Book;
 use crate::note::clients::Clients;
 use crate::note::counts::Counts;
 use crate::note::dispatch::Dispatch;
 use crate::note::filing::{Filing, name_of};
+use crate::note::journaling::{Journaling, is_commit_add};
 use crate::note::medium::Medium;
 use crate::note::money::Money;
-use crate::note::pages::Pages;
+use crate::note::pages::{Pages, Taken};
 use crate::note::service::Served;
 use crate::note::time::Time;
 use crate::plan::Plan;
 use cause_set::{Causes, TagStore};
 use hook_events::History;
-use split_types::{Call, Event, Name, Pid, ReqId, Request, Serial, Slot, Workload, actor_of};
+use split_types::{Call, Event, Name, Pid, ReqId, Request, Serial, Slot, Txn, Workload, actor_of};
 use std::alloc::{AllocError, Global};
 use tag_table::Table;
 
 /// The bytes of a page.
 const PAGE: u32 = 4096;
 
-/// An event takes at most so many tags out of their store: one for each page of a run.
-const TAGS_OF_AN_EVENT: u32 = 16;
+/// An event takes at most so many tags out of their store: one for each page that it takes or serves, and two for each
+/// buffer that is sealed.
+const TAGS_OF_AN_EVENT: u32 = 554;
 
 /// What is kept as the history grows.
 #[derive(Drop)]
@@ -57,7 +63,8 @@ pub(crate) struct Parts {
     pub(crate) clients: Clients,
     pub(crate) filing: Filing,
     pub(crate) pages: Pages,
-    /// The store of the tags that pages have.
+    pub(crate) journaling: Journaling,
+    /// The store of the tags that pages, the journal and the run that is served have.
     pub(crate) tags: Table,
     pub(crate) medium: Medium,
     pub(crate) book: Book,
@@ -70,8 +77,8 @@ pub(crate) struct Parts {
 
 /// What one part hands to another with an event: of a call that is admitted the file that it works on and the
 /// file's size; of a make the name of its file; of a put whether its page needs the promise of a free block; of a
-/// drop how many pages of the file have such a promise; of a send or completion its request, and of a completion the
-/// cost and the tag.
+/// drop how many pages of the file have such a promise, and the transaction that takes it; of a send or completion
+/// its request, and of a completion the cost and the tag.
 #[derive(Clone, Copy, Debug)]
 pub(crate) struct Given {
     pub(crate) file: Option<Serial>,
@@ -79,6 +86,7 @@ pub(crate) struct Given {
     pub(crate) name: Option<Name>,
     pub(crate) promise: bool,
     pub(crate) promised: u32,
+    pub(crate) next: Txn,
     pub(crate) request: Option<Request>,
     pub(crate) cost: u64,
     pub(crate) tag: Causes,
@@ -90,7 +98,14 @@ fn asks(e: &Event) -> bool
 {
     matches!(
         *e,
-        Event::Make { .. } | Event::Put { .. } | Event::Add { .. } | Event::Send { .. },
+        Event::Make { .. }
+            | Event::Put { .. }
+            | Event::Drop { .. }
+            | Event::Serve { .. }
+            | Event::Map { .. }
+            | Event::Seal { .. }
+            | Event::Add { .. }
+            | Event::Send { .. },
     )
 }
 
@@ -107,6 +122,7 @@ impl Given {
             name: None,
             promise: false,
             promised: 0,
+            next: Txn(0),
             request: None,
             cost: 0,
             tag: Causes::none(),
@@ -152,14 +168,16 @@ fn device(alloc: Global, w: &Workload) -> Result<(Filing, Medium), AllocError>
     Ok((filing, medium))
 }
 
-/// The cache, and the store of its tags, before any event.
-fn memory(alloc: Global, w: &Workload) -> Result<(Pages, Table), AllocError>
-    ensures pages { IfOk result (λ r. PagesStand w.now r.0 (tags_of r.1) []) }
-    ensures tags { IfOk result (λ r. TagsStand r.0 (tags_of r.1)) }
+/// The cache and the journal before any event.
+fn memory(alloc: Global, w: &Workload) -> Result<(Pages, Journaling), AllocError>
+    requires accepted { IsAccepted w.now }
+    ensures pages { IfOk result (λ r. (tags : Tags) → PagesStand w.now r.0 tags []) }
+    ensures journaling { IfOk result (λ r. (tags : Tags) → JournalStands w.now r.1 tags []) }
+    ensures none { IfOk result (λ r. (n : ℕ) → held_by_pages r.0 n + held_by_journal r.1 n ≡ 0) }
 {
-    let tags = Table::new(alloc)?;
     let pages = Pages::new(alloc, w)?;
-    Ok((pages, tags))
+    let journaling = Journaling::new(alloc, w)?;
+    Ok((pages, journaling))
 }
 
 impl Parts {
@@ -172,12 +190,14 @@ impl Parts {
         let (clients, book) = calls_and_requests(alloc, w, plan)?;
         let (money, counts) = sums(alloc, w)?;
         let (filing, medium) = device(alloc, w)?;
-        let (pages, tags) = memory(alloc, w)?;
+        let (pages, journaling) = memory(alloc, w)?;
+        let tags = Table::new(alloc)?;
         let dispatch = Dispatch::new(alloc)?;
         Ok(Parts {
             clients,
             filing,
             pages,
+            journaling,
             tags,
             medium,
             book,
@@ -287,6 +307,19 @@ impl Parts {
         given.tag = entry.tag;
     }
 
+    /// What is handed on of a file that is dropped.
+    fn give_drop(&self, w: &Workload, h: &History, slot: Slot, serial: Serial, given: &mut Given)
+        requires accepted { IsAccepted w.now }
+        requires legal { IsLegal w.now h.now.events }
+        requires short { length h.now.events < 2 ^ 31 }
+        requires stands { PartsStand w.now self.now h.now.events }
+        requires file { DropFits w.now h.now.events slot serial }
+        ensures { GivenDrop w.now h.now.events serial given.new }
+    {
+        given.promised = self.promises_of(w, h, slot, serial);
+        given.next = self.journaling.next_txn(w, h);
+    }
+
     /// Says what the parts hand to each other with an event, where nothing is said yet.
     pub(crate) fn give(&self, w: &Workload, plan: &Plan, h: &History, e: &Event, given: &mut Given)
         requires accepted { IsAccepted w.now }
@@ -304,9 +337,7 @@ impl Parts {
             Event::Put { serial, page, .. } => {
                 given.promise = self.is_promise_due(w, h, serial, page)
             }
-            Event::Drop { slot, serial, .. } => {
-                given.promised = self.promises_of(w, h, slot, serial)
-            }
+            Event::Drop { slot, serial, .. } => self.give_drop(w, h, slot, serial, given),
             Event::Send { id, .. } => given.request = Some(self.book.entry(h, id).request),
             Event::Done { id, .. } => self.give_done(w, h, id, given),
             _ => {}
@@ -343,7 +374,73 @@ impl Parts {
         promised
     }
 
-    /// Takes note of an event.
+    /// The bytes that a request carries which the commit thread adds; none for any other event.
+    pub(crate) fn content(
+        &self,
+        alloc: Global,
+        w: &Workload,
+        h: &History,
+        e: &Event,
+    ) -> Result<Vec<u8>, AllocError>
+        requires accepted { IsAccepted w.now }
+        requires legal { IsLegal w.now (h.now.events ▹ e.now) }
+        requires stands { PartsStand w.now self.now h.now.events }
+        ensures { IfOk result (λ bytes. is_commit_add e.now ≡ true → Brings w.now h.now.events e.now bytes.items) }
+    {
+        self.journaling.content(alloc, &self.tags, w, h, e)
+    }
+
+    /// The holders of tags take note of an event: the journal, what is served, and the pages. Says what a request takes
+    /// that is added.
+    fn note_holders(
+        &mut self,
+        alloc: Global,
+        w: &Workload,
+        h: &History,
+        e: &Event,
+        given: &Given,
+        content: Vec<u8>,
+    ) -> Taken
+        requires accepted { IsAccepted w.now }
+        requires stands { PartsStand w.now self.old h.now.events }
+        requires fits { Fits w.now h.now.events e.now }
+        requires given { IsGiven w.now h.now.events e.now given.now }
+        requires content { is_commit_add e.now ≡ true → Brings w.now h.now.events e.now content.items }
+        requires room { asks e.now ≡ true → HasRoom self.old }
+        ensures others { self.new ≡ record self.old {
+          pages = self.new.pages;
+          journaling = self.new.journaling;
+          tags = self.new.tags;
+          service = self.new.service;
+        } }
+        ensures pages { PagesStand w.now self.new.pages (tags_of self.new.tags) (h.now.events ▹ e.now) }
+        ensures journaling { JournalStands w.now self.new.journaling (tags_of self.new.tags) (h.now.events ▹ e.now) }
+        ensures service { ServedStands self.new.service (tags_of self.new.tags) (h.now.events ▹ e.now) }
+        ensures tags { TagsStand self.new }
+        ensures taken { IsTaken w.now h.now.events e.now result }
+    {
+        let of_commit = if is_commit_add(e) {
+            Some(self.journaling.take(&self.tags, w, h, e, content))
+        } else {
+            None
+        };
+        self.journaling.note(
+            &mut self.tags,
+            &self.filing.fs,
+            &self.service,
+            w,
+            h,
+            e,
+            given,
+        );
+        self.service.note(&mut self.tags, &self.pages, w, h, e);
+        let taken = self
+            .pages
+            .note(alloc, &mut self.tags, &self.medium, w, h, e, given);
+        of_commit.unwrap_or(taken)
+    }
+
+    /// Takes note of an event, with the bytes that a request carries which the commit thread adds.
     pub(crate) fn note(
         &mut self,
         alloc: Global,
@@ -352,25 +449,24 @@ impl Parts {
         h: &History,
         e: &Event,
         given: &Given,
+        content: Vec<u8>,
     )
         requires accepted { IsAccepted w.now }
         requires plan { PlanStands w.now plan.now }
         requires stands { PartsStand w.now self.old h.now.events }
         requires fits { Fits w.now h.now.events e.now }
         requires given { IsGiven w.now h.now.events e.now given.now }
+        requires content { is_commit_add e.now ≡ true → Brings w.now h.now.events e.now content.items }
         requires room { asks e.now ≡ true → HasRoom self.old }
         ensures { PartsStand w.now self.new (h.now.events ▹ e.now) }
     {
         let actor = actor_of(e);
+        let taken = self.note_holders(alloc, w, h, e, given, content);
         self.filing.note(alloc, w, h, e, given);
-        let taken = self
-            .pages
-            .note(alloc, &mut self.tags, &self.medium, w, h, e, given);
         self.clients.note(w, plan, h, actor, e, given);
         self.book.note(w, h, e, &taken.tag);
         self.medium.note(w, h, e, given, taken.cargo);
-        self.dispatch.note(w, h, e);
-        self.service.note(w, h, e);
+        self.dispatch.note(w, h, e, given);
         self.time.note(w, h, e, given);
         self.money.note(w, h, e, given);
         self.counts.note(w, h, actor, e);

@@ -8,7 +8,8 @@ ghost use Rattle.split_core.specs.Clients.{mapped_run};
 ghost use Rattle.split_core.specs.Fits.{DropFits};
 
 use crate::machine::Core;
-use split_types::{Actor, Event, ReqId, ReqKind, Request, Run, Service, Slot};
+use proxies::Writeback;
+use split_types::{Actor, Event, ReqId, ReqKind, Request, Run, Slot};
 use writeback::next_service;
 
 /// The bytes of a page.
@@ -19,9 +20,9 @@ impl Core {
     pub(crate) fn mapped(&self) -> Option<Run>
         ensures { result ≡ mapped_run (service self.now.history) }
     {
-        match self.parts.service.service {
-            Service::Mapped(run) => Some(run),
-            Service::Idle | Service::Serving(_) => None,
+        match &self.parts.service.state {
+            Writeback::Mapped { run, causes: _ } => Some(*run),
+            Writeback::Idle | Writeback::Serving { run: _, causes: _ } => None,
         }
     }
 
@@ -124,15 +125,15 @@ impl Core {
         ensures { result ≡ next_of_writeback self.now.workload self.now.history }
     {
         let fs = &self.parts.filing.fs;
-        match self.parts.service.service {
-            Service::Idle => self.next_serve(),
-            Service::Serving(run) => match fs.slot_of(run.serial) {
+        match &self.parts.service.state {
+            Writeback::Idle => self.next_serve(),
+            Writeback::Serving { run, causes: _ } => match fs.slot_of(run.serial) {
                 None => Some(Event::Skip),
-                Some(slot) => self.next_of_serving(slot, run),
+                Some(slot) => self.next_of_serving(slot, *run),
             },
-            Service::Mapped(run) => match fs.slot_of(run.serial) {
+            Writeback::Mapped { run, causes: _ } => match fs.slot_of(run.serial) {
                 None => Some(Event::Skip),
-                Some(slot) => self.next_of_mapped(slot, run),
+                Some(slot) => self.next_of_mapped(slot, *run),
             },
         }
     }

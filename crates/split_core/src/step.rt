@@ -32,6 +32,9 @@ impl Core {
         let place = self.history.len() as u32;
         self.history.room(1)?;
         self.parts.room(self.alloc, e)?;
+        let content = self
+            .parts
+            .content(self.alloc, &self.workload, &self.history, e)?;
         let mut given = Given::none();
         self.parts
             .give(&self.workload, &self.plan, &self.history, e, &mut given);
@@ -42,6 +45,7 @@ impl Core {
             &self.history,
             e,
             &given,
+            content,
         );
         let _ = self.history.push(*e);
         Ok(place)
@@ -88,6 +92,9 @@ impl Core {
         ensures { result ≡ first_next self.now.workload self.now.history others }
     {
         if let Some(e) = self.next(Actor::Wb) {
+            return Some(e);
+        }
+        if let Some(e) = self.next(Actor::Cm) {
             return Some(e);
         }
         if let Some(e) = self.next(Actor::Dq) {

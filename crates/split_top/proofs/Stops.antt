@@ -9,7 +9,7 @@ use Rattle.split_types.specs.declared.workload.Workload.{Workload}
 use Rattle.split_types.specs.WorkloadText.{Spells}
 use Rattle.split_types.specs.Legal.{IsLegal, go_actors, play}
 use Rattle.split_types.specs.Draining.{IsWhole}
-use Rattle.split_types.proofs.Shared.{play_legal, drains_whole, bills_conserve}
+use Rattle.split_types.proofs.Shared.{play_legal, drains_whole, bills_conserve, commits_in_order}
 use Rattle.split_top.specs.declared.call.Status.{Status}
 use Rattle.split_top.specs.declared.call.Status.TheVariants as status
 use Rattle.split_top.specs.Replay.{text_of, run_of}
@@ -82,6 +82,7 @@ is_run input w spells =
         run = refl;
         whole = whole;
         conserves = bills_conserve w (run_of w) spells.accepted whole.legal;
+        ordered = commits_in_order w (run_of w) spells.accepted whole.legal;
         text_is = refl;
       },
     )

@@ -5,6 +5,7 @@ use Rattle.split_types.specs.declared.event.Event.{Event}
 use Rattle.split_types.specs.WorkloadText.{Spells}
 use Rattle.split_types.specs.Legal.{drain, play, go_actors}
 use Rattle.split_types.specs.LegalHistories.{Conserves}
+use Rattle.split_types.specs.JournalPromises.{CommitsWait}
 use Rattle.split_types.specs.Draining.{IsWhole}
 use Rattle.split_types.specs.FactsOf.{facts_of}
 use Rattle.split_types.specs.TraceText.{trace_text}
@@ -25,7 +26,8 @@ pub record IsReplay (input : List ℕ) (w : Workload) (h : List Event) (text : L
   -- each event is the next one of its actor, all calls returned, all that was dirtied is written out
   pub whole : IsWhole w h
   -- each request has processes that pay for it and is done at most once, what they bear adds up to its cost, and all
-  -- bills to
-  -- the clock
+  -- bills to the clock
   pub conserves : Conserves w h
+  -- no commit record is sent before all data writes that were added before its seal are done
+  pub ordered : CommitsWait h
   pub text_is : text ≡ text_of w h

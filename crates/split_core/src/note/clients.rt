@@ -27,7 +27,7 @@ pub(crate) struct Client {
     /// Whether a call is under way, and whether it was admitted.
     pub(crate) entered: bool,
     pub(crate) admitted: bool,
-    /// Whether it made its file, or dropped it.
+    /// Whether it made its file, dropped it, or was flushed.
     pub(crate) acted: bool,
     /// The file that its admitted call is bound to, which may have been dropped since, and the size that it had when
     /// the call was admitted.
@@ -90,7 +90,7 @@ impl Client {
                 self.moved += u64::from(to - from);
                 self.got += sum;
             }
-            Event::Make { .. } | Event::Drop { .. } => self.acted = true,
+            Event::Make { .. } | Event::Drop { .. } | Event::Flushed { .. } => self.acted = true,
             Event::Add { .. } => self.awaits = true,
             Event::Ret { .. } => {
                 self.returned += 1;

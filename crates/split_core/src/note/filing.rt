@@ -19,13 +19,13 @@ ghost use Rattle.split_core.specs.Givens.{IsGiven};
 ghost use Rattle.split_types.specs.LiveFiles.{file_at, made_file, grown_file, mapped_file, blocks_of, slot_of_serial};
 ghost use Rattle.delayed_alloc.specs.Blocks.{free_count};
 ghost use Rattle.small_fs.specs.Files.{with_file, changed, next_file};
-ghost use Rattle.split_core.specs.Filing.{FilingStands, HasFilingRoom, IsFor, MayMake, AreTaken, LetsGo, Takes};
+ghost use Rattle.split_core.specs.Filing.{FilingStands, HasFilingRoom, IsFor, MayMake, AreTaken, LetsGo, settles, Takes};
 
 use crate::parts::Given;
 use delayed_alloc::Alloc;
 use hook_events::History;
 use small_fs::Fs;
-use split_types::{Call, Event, Name, Serial, Slot, Txn, Workload};
+use split_types::{Call, Event, Name, ReqKind, Request, Serial, Slot, Txn, Workload};
 use std::alloc::{AllocError, Global};
 
 /// The first block of data of the first layout of the disk.
@@ -43,9 +43,6 @@ pub(crate) struct Filing {
     pub(crate) fs: Fs,
     pub(crate) alloc: Alloc,
 }
-
-/// The transaction that the next seal will seal.
-const NEXT_SEALED: Txn = Txn(1);
 
 /// The first block of data.
 pub(crate) fn first_block(w: &Workload) -> u32
@@ -71,13 +68,13 @@ fn preset_pages(w: &Workload) -> u32
     pages
 }
 
-/// The blocks of a dropped file wait until its drop is committed.
-fn let_go(alloc: &mut Alloc, blocks: &[u32])
+/// The blocks of a dropped file wait until the transaction is committed that takes the drop.
+fn let_go(alloc: &mut Alloc, blocks: &[u32], t: Txn)
     requires { AreTaken alloc.old blocks.now }
-    ensures { LetsGo alloc.old alloc.new blocks.now 0 }
+    ensures { LetsGo alloc.old alloc.new t blocks.now 0 }
 {
     for block in blocks {
-        alloc.free_later(*block, NEXT_SEALED);
+        alloc.free_later(*block, t);
     }
 }
 
@@ -174,18 +171,30 @@ impl Filing {
         }
     }
 
-    /// A file is dropped.
-    fn drop_file(&mut self, slot: Slot, promised: u32)
+    /// A file is dropped; a transaction takes that.
+    fn drop_file(&mut self, slot: Slot, promised: u32, t: Txn)
         requires live { IsSome (file_at self.old.fs.slots slot.0) }
         requires taken { IfSome (file_at self.old.fs.slots slot.0) (λ f. AreTaken self.old.alloc (blocks_of f)) }
         requires promised { promised ≤ self.old.alloc.reserved }
         ensures files { self.new.fs ≡ record self.old.fs { slots = with_file slot.0 None self.old.fs.slots } }
         ensures blocks { IfSome (file_at self.old.fs.slots slot.0)
-            (λ f. LetsGo self.old.alloc self.new.alloc (blocks_of f) promised) }
+            (λ f. LetsGo self.old.alloc self.new.alloc t (blocks_of f) promised) }
     {
         let blocks = self.fs.drop_file(slot);
-        let_go(&mut self.alloc, blocks.as_slice());
+        let_go(&mut self.alloc, blocks.as_slice(), t);
         take_back(&mut self.alloc, promised);
+    }
+
+    /// A request is done; the blocks that wait for the transaction that it commits, if it does, are free.
+    fn settle(&mut self, request: Option<Request>)
+        ensures files { self.new.fs ≡ self.old.fs }
+        ensures blocks { self.new.alloc ≡ settles request self.old.alloc }
+    {
+        if let Some(request) = request {
+            if let ReqKind::Commit(t) = request.kind {
+                self.alloc.settle(t);
+            }
+        }
     }
 
     /// Bytes of a page are put, up to this one of the page.
@@ -246,7 +255,7 @@ impl Filing {
     {
         match *e {
             Event::Make { .. } => self.make(alloc, given.name),
-            Event::Drop { slot, .. } => self.drop_file(slot, given.promised),
+            Event::Drop { slot, .. } => self.drop_file(slot, given.promised, given.next),
             Event::Put {
                 serial,
                 page,
@@ -262,6 +271,7 @@ impl Filing {
                 size,
                 ..
             } => self.map(slot, page, n, block, new, size),
+            Event::Done { .. } => self.settle(given.request),
             _ => {}
         }
     }

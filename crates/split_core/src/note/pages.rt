@@ -1,11 +1,11 @@
 //! The pages that the cache holds: the bytes and the causes of each, and how it stands.
-ghost use Rattle.std.specs.Prelude.{◌≡◌, ℕ, ◌+◌, ◌^◌, ◌<◌, ◌≤◌, List, [], length, map, false, is_some, IfOk, IfSome, OnOk, true};
+ghost use Rattle.std.specs.Prelude.{◌≡◌, ℕ, ◌+◌, ◌^◌, ◌<◌, ◌≤◌, List, [], length, map, false, is_some, IfOk, IfSome, IsTrue, OnOk, true};
 ghost use Rattle.std.specs.Option.{option_map};
 ghost use Rattle.std.specs.List.{flat_map};
 ghost use Rattle.cause_set.specs.Tags.{Tags, Moved, held, same, one_use, no_use};
 ghost use Rattle.sim_disk.specs.Bytes.{block_at, spread};
 ghost use Rattle.tag_table.specs.Tags.{tags_of};
-ghost use Rattle.page_cache.specs.Cached.{page_of, is_busy, is_loading, tags_in, causes_of};
+ghost use Rattle.page_cache.specs.Cached.{page_of, is_busy, is_loading, tag_in, tags_in, causes_of};
 ghost use Rattle.page_cache.specs.Changes.{IsReady, ChangesEach, ChangesOnly, KeepsTouches, taken_among, bytes_in, written};
 ghost use Rattle.split_types.specs.declared.buf.Buf.TheVariants as buf;
 ghost use Rattle.split_types.specs.declared.actor.Actor.{Actor};
@@ -18,14 +18,16 @@ ghost use Rattle.split_types.specs.Hooks.{is_among};
 ghost use Rattle.split_types.specs.Parents.{pages_of};
 ghost use Rattle.split_types.specs.Pages.{is_dirty};
 ghost use Rattle.split_types.specs.Sets.{union_of};
+ghost use Rattle.split_types.specs.Transactions.{is_of_commit};
+ghost use Rattle.journal_core.specs.Causes.{Covered};
 ghost use Rattle.split_types.specs.Accepted.{IsAccepted};
 ghost use Rattle.split_core.specs.Asks.{asks};
 ghost use Rattle.split_core.specs.Fits.{Fits};
 ghost use Rattle.split_core.specs.Givens.{IsGiven};
 ghost use Rattle.split_core.specs.Medium.{MediumStands};
-ghost use Rattle.split_core.specs.Pages.{PagesStand, TagsStand, HasPagesRoom, PagesBefore, PagesAfter, IsDoneOf};
+ghost use Rattle.split_core.specs.Pages.{PagesStand, HasPagesRoom, PagesBefore, PagesAfter, IsDoneOf, held_by_pages};
 ghost use Rattle.split_core.specs.Pages.{Releases, Loads, TouchesHeld, Gets};
-ghost use Rattle.split_core.specs.Takings.{IsTaken};
+ghost use Rattle.split_core.specs.Takings.{IsTaken, is_commit_add};
 
 use crate::note::cargo::Cargo;
 use crate::note::medium::Medium;
@@ -34,8 +36,9 @@ use cause_set::{Causes, TagStore};
 use hook_events::History;
 use page_cache::Cache;
 use sim_disk::{Disk, Fills};
-use split_types::{Actor, Buf, Event, Pid, ReqKind, Request, Serial, Workload};
+use split_types::{Actor, Buf, Event, Pid, ReqKind, Request, Run, Serial, Workload};
 use std::alloc::{AllocError, Global};
+use std::mem;
 use tag_table::{Table, TableTag};
 
 /// The cache, and the store of its tags.
@@ -69,6 +72,7 @@ fn let_go(tags: &mut Table, tag: TableTag) -> Causes
     requires { 1 ≤ (tags_of tags.old).uses tag.number }
     ensures set { result ≡ (tags_of tags.old).members tag.number }
     ensures moved { Moved (tags_of tags.old) (tags_of tags.new) (one_use tag.number) no_use }
+    ensures spare { (tags_of tags.old).spare ≤ (tags_of tags.new).spare }
 {
     let set = *tags.members(&tag);
     tags.release(tag);
@@ -89,7 +93,7 @@ impl Pages {
     pub(crate) fn room(&mut self, alloc: Global) -> Result<(), AllocError>
         ensures stands { (w : Workload) (tags : Tags) (h : List Event) → PagesStand w self.old tags h
             → PagesStand w self.new tags h }
-        ensures tags { (tags : Tags) → TagsStand self.old tags → TagsStand self.new tags }
+        ensures tags { (n : ℕ) → held_by_pages self.new n ≡ held_by_pages self.old n }
         ensures ok { OnOk result (0 < self.new.cache.spare) }
     {
         self.cache.room(alloc, 1)
@@ -104,6 +108,29 @@ impl Pages {
             Some(state) => state.dirty,
             None => false,
         }
+    }
+
+    /// A tag of all for whom the pages of a run are dirty.
+    pub(crate) fn tag_of(&self, tags: &mut Table, run: Run) -> TableTag
+        requires some { 1 ≤ run.n }
+        requires few { run.n ≤ 16 }
+        requires within { run.page + run.n ≤ 1008 }
+        requires dirty { (k : ℕ) → k < run.n → IsTrue (is_some (tag_in (page_of self.now.cache (buf.Page run.serial (run.page + k))))) }
+        requires covered { Covered (held_by_pages self.now) (tags_of tags.old) }
+        requires room { 16 ≤ (tags_of tags.old).spare }
+        ensures set { (tags_of tags.new).members result.number
+            ≡ union_of (map (causes_of (tags_of tags.old) self.now.cache) (pages_of run.serial run.page run.n)) }
+        ensures moved { Moved (tags_of tags.old) (tags_of tags.new) no_use (one_use result.number) }
+        ensures spare { (tags_of tags.old).spare ≤ (tags_of tags.new).spare + 16 }
+    {
+        let first = self.cache.tag(Buf::Page(run.serial, run.page)).unwrap();
+        let mut all = tags.again(first).unwrap();
+        for k in 1..run.n {
+            let more = self.cache.tag(Buf::Page(run.serial, run.page + k)).unwrap();
+            let joined = tags.join(&all, more).unwrap();
+            tags.release(mem::replace(&mut all, joined));
+        }
+        all
     }
 
     /// Whether a page is held.
@@ -159,7 +186,7 @@ impl Pages {
         requires some { 1 ≤ n }
         requires few { n ≤ 16 }
         requires ready { (k : ℕ) → k < n → IsReady self.old.cache (buf.Page serial (page + k)) }
-        requires tags { TagsStand self.old (tags_of tags.old) }
+        requires tags { Covered (held_by_pages self.old) (tags_of tags.old) }
         requires room { HasPagesRoom self.old (tags_of tags.old) }
         requires fills { spread fills
             ≡ flat_map (λ b. bytes_in (page_of self.old.cache b)) (pages_of serial page n) }
@@ -169,7 +196,8 @@ impl Pages {
         ensures pages { ChangesEach self.old.cache self.new.cache (taken_among serial page n) }
         ensures causes { (k : _) → is_among serial page n k ≡ false
             → causes_of (tags_of tags.new) self.new.cache k ≡ causes_of (tags_of tags.old) self.old.cache k }
-        ensures tags { TagsStand self.new (tags_of tags.new) }
+        ensures moved { Moved (tags_of tags.old) (tags_of tags.new) (held_by_pages self.old) (held_by_pages self.new) }
+        ensures spare { (tags_of tags.old).spare ≤ (tags_of tags.new).spare + 16 }
     {
         let tag = self.cache.take_tag(tags, serial, page, n).unwrap();
         Taken {
@@ -190,7 +218,7 @@ impl Pages {
         requires some { 1 ≤ n }
         requires few { n ≤ 16 }
         requires ready { (k : ℕ) → k < n → IsReady self.old.cache (buf.Page serial (page + k)) }
-        requires tags { TagsStand self.old (tags_of tags.old) }
+        requires tags { Covered (held_by_pages self.old) (tags_of tags.old) }
         requires room { HasPagesRoom self.old (tags_of tags.old) }
         ensures cargo { result.cargo ≡ flat_map (λ b. bytes_in (page_of self.old.cache b)) (pages_of serial page n) }
         ensures set { result.tag
@@ -198,7 +226,8 @@ impl Pages {
         ensures pages { ChangesEach self.old.cache self.new.cache (taken_among serial page n) }
         ensures causes { (k : _) → is_among serial page n k ≡ false
             → causes_of (tags_of tags.new) self.new.cache k ≡ causes_of (tags_of tags.old) self.old.cache k }
-        ensures tags { TagsStand self.new (tags_of tags.new) }
+        ensures moved { Moved (tags_of tags.old) (tags_of tags.new) (held_by_pages self.old) (held_by_pages self.new) }
+        ensures spare { (tags_of tags.old).spare ≤ (tags_of tags.new).spare + 16 }
     {
         let (bytes, tag) = self.cache.take_out(alloc, tags, serial, page, n).unwrap();
         Taken {
@@ -212,7 +241,7 @@ impl Pages {
         requires some { 1 ≤ n }
         requires few { n ≤ 16 }
         requires ready { (k : ℕ) → k < n → IsReady self.old.cache (buf.Page serial (page + k)) }
-        requires tags { TagsStand self.old (tags_of tags.old) }
+        requires tags { Covered (held_by_pages self.old) (tags_of tags.old) }
         requires room { HasPagesRoom self.old (tags_of tags.old) }
         requires within { page + n < 2 ^ 32 }
         ensures cargo { result.cargo ≡ flat_map (λ b. bytes_in (page_of self.old.cache b)) (pages_of serial page n) }
@@ -221,7 +250,8 @@ impl Pages {
         ensures pages { ChangesEach self.old.cache self.new.cache (taken_among serial page n) }
         ensures causes { (k : _) → is_among serial page n k ≡ false
             → causes_of (tags_of tags.new) self.new.cache k ≡ causes_of (tags_of tags.old) self.old.cache k }
-        ensures tags { TagsStand self.new (tags_of tags.new) }
+        ensures moved { Moved (tags_of tags.old) (tags_of tags.new) (held_by_pages self.old) (held_by_pages self.new) }
+        ensures spare { (tags_of tags.old).spare ≤ (tags_of tags.new).spare + 16 }
     {
         match self.fills_of(serial, page, n) {
             Some(fills) => self.take_filled(tags, serial, page, n, fills),
@@ -240,8 +270,10 @@ impl Pages {
         request: &Request,
     ) -> Taken
         requires { PagesBefore w.now self.old (tags_of tags.old) h.now.events (event.Add by request.now) }
-        ensures pages { PagesAfter w.now self.new (tags_of tags.new) (h.now.events ▹ event.Add by request.now) }
-        ensures taken { IsTaken w.now h.now.events (event.Add by request.now) result }
+        ensures pages { PagesAfter w.now self.old self.new (tags_of tags.old) (tags_of tags.new)
+            (h.now.events ▹ event.Add by request.now) }
+        ensures spare { (tags_of tags.old).spare ≤ (tags_of tags.new).spare + 16 }
+        ensures taken { is_of_commit request.now ≡ false → IsTaken w.now h.now.events (event.Add by request.now) result }
     {
         match request.kind {
             ReqKind::Read(by, serial, page) => {
@@ -325,7 +357,7 @@ impl Pages {
         requires before { PagesBefore w.now self.old (tags_of tags.now) h.now.events e.now }
         requires medium { MediumStands w.now medium.now h.now.events }
         requires is { IsDoneOf h.now.events e.now request.now }
-        ensures { PagesAfter w.now self.new (tags_of tags.now) (h.now.events ▹ e.now) }
+        ensures { PagesAfter w.now self.old self.new (tags_of tags.now) (tags_of tags.now) (h.now.events ▹ e.now) }
     {
         match request.kind {
             ReqKind::Read(_, serial, page) => {
@@ -351,7 +383,9 @@ impl Pages {
         fill: u32,
     )
         requires { PagesBefore w.now self.old (tags_of tags.old) h.now.events (event.Put by serial page from to fill) }
-        ensures { PagesAfter w.now self.new (tags_of tags.new) (h.now.events ▹ event.Put by serial page from to fill) }
+        ensures pages { PagesAfter w.now self.old self.new (tags_of tags.old) (tags_of tags.new)
+            (h.now.events ▹ event.Put by serial page from to fill) }
+        ensures spare { (tags_of tags.old).spare ≤ (tags_of tags.new).spare + 16 }
     {
         self.cache
             .write(
@@ -382,7 +416,8 @@ impl Pages {
         requires medium { MediumStands w.now medium.now h.now.events }
         requires given { IsGiven w.now h.now.events e.now given.now }
         requires other { (by : Actor) (r : Request) → e.now ≡ event.Add by r → ⊥ }
-        ensures { PagesAfter w.now self.new (tags_of tags.new) (h.now.events ▹ e.now) }
+        ensures pages { PagesAfter w.now self.old self.new (tags_of tags.old) (tags_of tags.new) (h.now.events ▹ e.now) }
+        ensures spare { (tags_of tags.old).spare ≤ (tags_of tags.new).spare + 16 }
     {
         match *e {
             Event::Put {
@@ -426,14 +461,15 @@ impl Pages {
     ) -> Taken
         requires accepted { IsAccepted w.now }
         requires stands { PagesStand w.now self.old (tags_of tags.old) h.now.events }
-        requires tags { TagsStand self.old (tags_of tags.old) }
+        requires tags { Covered (held_by_pages self.old) (tags_of tags.old) }
         requires medium { MediumStands w.now medium.now h.now.events }
         requires fits { Fits w.now h.now.events e.now }
         requires given { IsGiven w.now h.now.events e.now given.now }
         requires room { asks e.now ≡ true → HasPagesRoom self.old (tags_of tags.old) }
         ensures stands { PagesStand w.now self.new (tags_of tags.new) (h.now.events ▹ e.now) }
-        ensures tags { TagsStand self.new (tags_of tags.new) }
-        ensures taken { IsTaken w.now h.now.events e.now result }
+        ensures moved { Moved (tags_of tags.old) (tags_of tags.new) (held_by_pages self.old) (held_by_pages self.new) }
+        ensures spare { (tags_of tags.old).spare ≤ (tags_of tags.new).spare + 16 }
+        ensures taken { is_commit_add e.now ≡ false → IsTaken w.now h.now.events e.now result }
     {
         if let Event::Add { by, req } = *e {
             return self.add(alloc, tags, w, h, by, &req);

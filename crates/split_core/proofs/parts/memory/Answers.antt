@@ -1,6 +1,6 @@
--- Pages stand before any event whatever the tags.
-use Rattle.tag_table.specs.Tags.{tags_of}
+-- Nothing is held before any event.
+use Rattle.std.proofs.Common.{arith}
 use Rattle.split_core.proofs.parts.memory.Goals as goal
 
-pub returns-clause-pages : goal.returns-clause-pages
-returns-clause-pages c = c.in_ok-pages.ensures.stands (tags_of c.in_ok-tags.tags)
+pub returns-clause-none : goal.returns-clause-none
+returns-clause-none c = λ n. omega (arith, c.in_ok-pages.ensures.none n, c.in_ok-journaling.ensures.none n)

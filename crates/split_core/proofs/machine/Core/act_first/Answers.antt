@@ -1,7 +1,6 @@
 -- The processes are asked first, and then the other actors.
 use Rattle.std.proofs.Common.{◌≡◌, ◌∙◌, sym, ap, subst, Some, None}
-use Rattle.split_types.specs.Legal.{is_drained, first_next}
-use Rattle.split_core.specs.declared.step.Step.TheVariants.{Made, Idle}
+use Rattle.split_types.specs.Legal.{first_next}
 use Rattle.split_core.specs.StandsFor.{Simulation}
 use Rattle.split_core.specs.Steps.{clients_from, others, FirstStepsTo, Appends}
 use Rattle.split_core.proofs.TurnNotes.{asks, first_comes, clients_turn, others_turn, none_drained}

@@ -1,6 +1,5 @@
 -- A process without a next event is passed over.
-use Rattle.std.proofs.Common.{◌≡◌, ◌+◌, ◌<◌, ◌∙◌, sym, ap, subst, arith, length, Option, Some}
-use Rattle.split_types.specs.declared.event.Event.{Event}
+use Rattle.std.proofs.Common.{◌+◌, ◌<◌, ◌∙◌, sym, ap, subst, arith, length}
 use Rattle.split_types.specs.Next.{next}
 use Rattle.split_core.specs.StandsFor.{Simulation}
 use Rattle.split_core.specs.Steps.{client, Appends}

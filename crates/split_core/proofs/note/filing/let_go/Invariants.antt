@@ -3,4 +3,4 @@ use Rattle.split_core.proofs.FilingFilesLetGo.{GoneTo}
 use Rattle.split_core.proofs.note.filing.let_go.Given as goal
 
 abbrev pub invariant-loop-block : goal.invariant-loop-block
-invariant-loop-block l = GoneTo l.initial.alloc l.alloc l.blocks l.block-index
+invariant-loop-block l = GoneTo l.initial.alloc l.alloc l.t l.blocks l.block-index

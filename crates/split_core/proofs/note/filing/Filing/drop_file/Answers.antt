@@ -16,6 +16,7 @@ let_go-requires c =
 pub returns-clause-blocks : goal.returns-clause-blocks
 returns-clause-blocks c =
     IfSome_then (file_at c.args.self.now.fs.slots c.args.slot.0) c.drop_file-blocks.ensures.blocks
-    (λ f e. promises_back c.args.self.now.alloc c.let_go.new.alloc c.take_back.new.alloc _ c.args.promised
-    (subst (λ b. LetsGo c.args.self.now.alloc c.let_go.new.alloc b 0) (c.as_slice.ensures ∙ e) c.let_go.ensures)
-    c.take_back.ensures.states c.take_back.ensures.reserved)
+    (λ f e. promises_back c.args.self.now.alloc c.let_go.new.alloc c.take_back.new.alloc c.args.t _
+    c.args.promised
+    (subst (λ b. LetsGo c.args.self.now.alloc c.let_go.new.alloc c.args.t b 0) (c.as_slice.ensures ∙ e)
+    c.let_go.ensures) c.take_back.ensures.states c.take_back.ensures.reserved)

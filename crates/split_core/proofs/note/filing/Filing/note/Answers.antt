@@ -1,6 +1,6 @@
 -- An event is taken note of.
 use Rattle.std.proofs.Common.{refl}
-use Rattle.split_core.proofs.FilingFilesEvents.{stands_quiet, make_may, stands_make, drop_may, stands_drop, stands_put, map_may, stands_map}
+use Rattle.split_core.proofs.FilingFilesEvents.{stands_quiet, stands_done, make_may, stands_make, drop_may, stands_drop, stands_put, map_may, stands_map}
 use Rattle.split_core.proofs.FilingBlocks.{put_promises}
 use Rattle.split_core.proofs.note.filing.Filing.note.Goals as goal
 
@@ -28,7 +28,7 @@ drop_file-requires c =
     let fits = rw c.in-Drop.is at c.requires.fits
     in let given = rw c.in-Drop.is at c.requires.given
     in let may = drop_may c.args.w.now c.args.h.now.events c.in-Drop.by c.in-Drop.slot c.in-Drop.serial
-    c.args.self.now c.args.given.now.promised c.requires.accepted fits c.requires.stands given
+    c.args.self.now c.args.given.now.promised c.requires.accepted fits c.requires.stands given.promised_is
     in record { live = may.live; taken = may.taken; promised = may.promised }
 
 pub returns-in-Drop : goal.returns-in-Drop
@@ -36,7 +36,7 @@ returns-in-Drop c =
     let fits = rw c.in-Drop.is at c.requires.fits
     in let given = rw c.in-Drop.is at c.requires.given
     in rw c.in-Drop.is (stands_drop c.args.w.now c.args.h.now.events c.in-Drop.by c.in-Drop.slot c.in-Drop.serial
-    c.args.self.now c.drop_file.new.self c.args.given.now.promised c.requires.accepted fits c.requires.stands given
+    c.args.self.now c.drop_file.new.self c.args.given.now c.requires.accepted fits c.requires.stands given
     c.drop_file.ensures.files c.drop_file.ensures.blocks)
 
 pub put-requires : goal.put-requires
@@ -83,7 +83,16 @@ returns-in-Map c =
     c.in-Map.n c.in-Map.block c.in-Map.new c.in-Map.size c.args.self.now c.map.new.self c.requires.accepted fits
     c.requires.stands does.files does.taken does.kept)
 
+pub returns-in-Done : goal.returns-in-Done
+returns-in-Done c =
+    let fits = rw c.in-Done.is at c.requires.fits
+    in let given = rw c.in-Done.is at c.requires.given
+    in rw c.in-Done.is (stands_done c.args.w.now c.args.h.now.events c.in-Done.k c.in-Done.id c.in-Done.ok
+    c.args.self.now c.settle.new.self c.args.given.now.request c.requires.accepted fits c.requires.stands
+    given.request_is c.settle.ensures.files c.settle.ensures.blocks)
+
 pub returns-in_default : goal.returns-in_default
 returns-in_default c =
     stands_quiet c.args.w.now c.args.h.now.events c.args.e.now c.args.self.now c.requires.accepted c.requires.fits
-    c.in_default.not-Make c.in_default.not-Put c.in_default.not-Drop c.in_default.not-Map c.requires.stands
+    c.in_default.not-Make c.in_default.not-Put c.in_default.not-Drop c.in_default.not-Map c.in_default.not-Done
+    c.requires.stands

@@ -1,5 +1,5 @@
 -- A write that is added is carried, one that is sent starts, and one that is done is finished.
-use Rattle.std.proofs.Common.{◌≡◌, slice_get, true, Some, refl, subst, sym, ap, ◌∙◌}
+use Rattle.std.proofs.Common.{◌≡◌, length, slice_get, true, Some, refl, arith, subst, sym, ap, ◌∙◌}
 use Rattle.split_types.specs.declared.event.Event.TheVariants.{Done}
 use Rattle.split_types.specs.History.{◌▹◌}
 use Rattle.split_types.specs.Legal.{IsLegal}
@@ -9,7 +9,7 @@ use Rattle.split_core.specs.declared.note.medium.Medium.{Medium}
 use Rattle.split_core.specs.Asks.{asks}
 use Rattle.split_core.specs.Medium.{MediumStands}
 use Rattle.split_core.proofs.MediumNotes.{medium_kept, medium_add_read, medium_add_write}
-use Rattle.split_core.proofs.MediumNotesSends.{given_is, starts, medium_send_read, medium_send_given}
+use Rattle.split_core.proofs.MediumNotesSends.{given_is, front_of, starts, medium_send_read, medium_send_given}
 use Rattle.split_core.proofs.MediumNotesDones.{done_is, write_found, medium_done_read, medium_done_write}
 use Rattle.split_core.proofs.note.medium.Medium.note.Goals.{in_default-via-in-None-1, in_default-via-in-Some+else-is_write-2, in_default-via-in-None-2, in_default-via-in-Some-request+else-is_write-3}
 use Rattle.split_core.proofs.note.medium.Medium.note.Goals as goal
@@ -63,6 +63,19 @@ returns-in-Some-pop_front c =
     c.requires.accepted c.requires.fits.legal.1 fits c.requires.stands same
     (sym c.is_write-in-Send.ensures ∙ c.if-is_write-2.true) c.in-Some-pop_front.ensures.items c.start.ensures.blocks
     c.start.ensures.writes)
+
+pub returns-in-Send : goal.returns-in-Send
+returns-in-Send c =
+    let fits = rw c.in-Send.is at c.requires.fits.kind
+    in let given = rw c.in-Send.is at c.requires.given
+    in let w = c.args.w.now
+    in let h = c.args.h.now.events
+    in let id = c.in-Send.id
+    in let same : fits.request ≡ c.in-Some.request =
+    given_is w h id c.in-Send.cost c.in-Some.request c.args.given.now.request fits given c.in-Some.is
+    in let front = front_of w h id c.in-Send.cost c.args.self.now c.requires.accepted c.requires.fits.legal.1 fits
+    c.requires.stands (ap requests.is_write same ∙ sym c.is_write-in-Send.ensures ∙ c.if-is_write-2.true)
+    in absurd (omega (arith, ap length front, c.args.self.now.carried.ok.0, c.in_default-pop_front.ensures.cases.0))
 
 pub returns-in-Send-2 : goal.returns-in-Send-2
 returns-in-Send-2 c =

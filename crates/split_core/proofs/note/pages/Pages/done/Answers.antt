@@ -4,6 +4,7 @@ use Rattle.sim_disk.specs.Bytes.{block_at}
 use Rattle.tag_table.specs.Tags.{tags_of}
 use Rattle.split_core.proofs.PageDones.{done_of, read_of, after_read_done}
 use Rattle.split_core.proofs.PageRunsDone.{run_small, after_run_done}
+use Rattle.split_core.proofs.PageCommits.{commits, after_commit_done}
 use Rattle.split_core.proofs.note.pages.Pages.done.Goals as goal
 
 pub load-requires : goal.load-requires
@@ -31,3 +32,9 @@ returns-in-Pages c =
     after_run_done c.args.w.now c.args.h.now.events c.args.e.now c.args.request.now c.in-Pages.serial c.in-Pages.page
     c.args.self.now c.release.new.self (tags_of c.args.tags.now) c.requires.before c.requires.is c.in-Pages.is
     c.release.ensures
+
+pub returns-in_default : goal.returns-in_default
+returns-in_default c =
+    after_commit_done c.args.w.now c.args.h.now.events c.args.e.now c.args.request.now c.args.self.now
+    (tags_of c.args.tags.now) c.requires.before c.requires.is
+    (commits c.args.request.now c.in_default.not-Read c.in_default.not-Pages)

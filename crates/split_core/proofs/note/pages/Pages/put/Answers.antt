@@ -5,8 +5,8 @@ use Rattle.split_core.proofs.PageTags.{on_ok, tags_moved}
 use Rattle.split_core.proofs.PagePuts.{pages_put}
 use Rattle.split_core.proofs.note.pages.Pages.put.Goals as goal
 
-pub returns : goal.returns
-returns c =
+pub returns-clause-pages : goal.returns-clause-pages
+returns-clause-pages c =
     let fits = c.requires.fits
     in let client = fits.by c.args.by refl
     in let room = c.requires.room refl
@@ -18,5 +18,5 @@ returns c =
           (omega (arith, client.last, fits.procs)) fits.kind (on_ok c.write.result _ made c.write.ensures.ok)
           c.unpin.ensures.pages c.requires.stands;
       tags = tags_moved (tags_of c.args.tags.now) (tags_of c.write.new.tags) c.args.self.now.cache c.write.new.self
-          c.unpin.new.self c.write.ensures.moved c.unpin.ensures.tags c.requires.tags;
+          c.unpin.new.self c.write.ensures.moved c.unpin.ensures.tags;
     }
