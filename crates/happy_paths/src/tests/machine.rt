@@ -150,7 +150,7 @@ fn played_with_files<L: Ledger>(alloc: Global, blank: Blank) -> Result<(u64, u32
 #[test]
 fn files_are_made_and_dropped(rt: HostRuntime) -> Result<(), Fail> {
     let shown = played_with_files::<Brand>(rt.alloc(), Blank::new(1))?;
-    assert_eq!(rt; shown, (102, 2));
+    assert_eq!(rt; shown, (390, 2));
     Ok(())
 }
 

@@ -64,6 +64,8 @@ fn next_in(
         mapped: None,
         progress: admitted(call),
         may_admit: true,
+        flushable: false,
+        committed: false,
         next_id: ReqId(7),
     };
     Ok((next_of(Pid(1), &view), next_event(Pid(1), &view)))
