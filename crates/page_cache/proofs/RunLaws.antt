@@ -1,7 +1,7 @@
 -- What holds where the pages of a file are gone through, one after another.
-use Rattle.std.proofs.Common.{◌≡◌, ◌≢◌, ℕ, ◌+◌, ◌<◌, Bool, true, false, cond, Option, Some, None, IsSome, is_some, arith, refl, ap, sym, ◌∙◌, inl, inr}
+use Rattle.std.proofs.Common.{◌≡◌, ◌≢◌, ℕ, zero, suc, ◌+◌, ◌-◌, ◌==◌, ◌<◌, ◌≤◌, min, Bool, true, false, cond, Option, Some, None, IsSome, is_some, arith, refl, ap, sym, ◌∙◌, inl, inr}
 use Rattle.std.specs.Prelude.{count_by, if◌then◌else◌}
-use Rattle.std.proofs.lemmas.Bool.{cases_Bool, cases_eq, cases_lt}
+use Rattle.std.proofs.lemmas.Bool.{eqb-true, cases_Bool, cases_eq, cases_lt}
 use Rattle.std.proofs.lemmas.Bool.Decides.{nat_tests}
 use Rattle.std.proofs.lemmas.List.FromFn.{sum_by-map-range_with_len_more}
 use Rattle.split_types.specs.declared.ids.Serial.{Serial}
@@ -173,46 +173,79 @@ among-below s t h n low = grind (arith, nat_tests)
 among-others : (s t : Serial) (h n : ℕ) → is_of s (Page t h) ≡ false → is_among s 0 n (Page t h) ≡ false
 among-others s t h n other = grind (arith, nat_tests)
 
--- all pages of a file are gone through
-pub frees-all : (before after : Tags) (old new : Cached) (s : Serial) → FreesTo before after old new s 1008
+-- all pages of a file that are held are gone through
+module _ (old : Cached) (s : Serial) (pages n : ℕ) (end : n ≡ min pages 1008)
+    (below : (g : ℕ) → IsSome (page_of old (Page s g)) → g < pages)
+    (numbered : 0 < n → (k : Buf) → IsSome (page_of old k) → IsDataPage k) where
+  absent : (x : Option Held) → (IsSome x → ⊥) → x ≡ None
+  absent None h = refl
+  absent (Some p) h = absurd (h refl)
+
+  none-from : (g : ℕ) → n ≤ g → page_of old (Page s g) ≡ None
+  none-from g high = absent (page_of old (Page s g)) (λ some. there some)
+    where
+      there : IsSome (page_of old (Page s g)) → ⊥
+      there some =
+          let low = below g some in
+          let small : g < 1008 = numbered (omega (arith, low, end)) (Page s g) some in
+          omega (arith, high, low, small, end)
+
+  as-file : (k : Buf) → (if is_among s 0 n k then None else page_of old k)
+      ≡ (if is_of s k then None else page_of old k)
+  as-file (Page t h) =
+      elim (cases_Bool (t.0 == s.0)) [
+        | inl mine ↦
+            elim (cases_lt h n) [
+              | inl low ↦ let e : is_among s 0 n (Page t h) ≡ is_of s (Page t h) = among-below s t h n low in
+                  rw e refl
+              | inr high ↦
+                  let same : Page t h ≡ Page s h = ap (λ u. Page u h) (serial-as t s (eqb-true t.0 s.0 mine)) in
+                  let none : page_of old (Page t h) ≡ None = ap (page_of old) same ∙ none-from h high in
+                  rw none (one-none (is_among s 0 n (Page t h)) None ∙ sym (one-none (is_of s (Page t h)) None))
+            ]
+        | inr other ↦ let e : is_among s 0 n (Page t h) ≡ false = among-others s t h n other in rw (e, other) refl
+      ]
+    where
+      one-none : (test : Bool) (x : Option Held) → (if test then x else x) ≡ x
+      one-none true x = refl
+      one-none false x = refl
+  as-file Bitmap = refl
+  as-file (Dir h) = refl
+  as-file (Inode t) = refl
+
+  -- what no page has is counted no more often over more pages
+  counted-more : (test : Option Held → Bool) → test None ≡ false → (d m : ℕ) → m ≡ n + d
+      → count_by (λ k. test (page_of old k)) (pages_of s 0 m) ≡ count_by (λ k. test (page_of old k)) (pages_of s 0 n)
+  counted-more test none zero m e = let same : m ≡ n = omega (arith, e) in rw same refl
+  counted-more test none (suc d) m e =
+      let before = counted-more test none d (n + d) refl in
+      let next = count-more (λ k. test (page_of old k)) s (n + d) in
+      let gone : test (page_of old (Page s (n + d))) ≡ false = ap test (none-from (n + d) (omega arith)) ∙ none in
+      let nothing : one_if (test (page_of old (Page s (n + d)))) ≡ 0 = ap one_if gone in
+      let same : m ≡ n + d + 1 = omega (arith, e) in
+      rw same (omega (arith, before, next, nothing))
+
+  counted : (test : Option Held → Bool) → test None ≡ false
+      → count_by (λ k. test (page_of old k)) (pages_of s 0 1008)
+      ≡ count_by (λ k. test (page_of old k)) (pages_of s 0 n)
+  counted test none = counted-more test none (1008 - n) 1008 (omega (arith, end))
+
+  not-among : (k : Buf) → is_of s k ≡ false → is_among s 0 n k ≡ false
+  not-among (Page t h) other = among-others s t h n other
+  not-among Bitmap other = refl
+  not-among (Dir h) other = refl
+  not-among (Inode t) other = refl
+
+pub frees-all : (before after : Tags) (old new : Cached) (s : Serial) (pages n : ℕ) → n ≡ min pages 1008
+    → ((g : ℕ) → IsSome (page_of old (Page s g)) → g < pages) → FreesTo before after old new s n
     → Frees before after old new s
-frees-all before after old new s done =
+frees-all before after old new s pages n end below done =
     record {
-      pages = λ k. done.pages k ∙ as-file k;
-      causes = λ k other. done.causes k (not-among k other);
-      count = done.count;
-      unsettled = done.unsettled;
+      pages = λ k. done.pages k ∙ as-file old s pages n end below done.numbered k;
+      causes = λ k other. done.causes k (not-among old s pages n end below done.numbered k other);
+      count = ap (λ m. held_in new + m) (counted old s pages n end below done.numbered is_some refl) ∙ done.count;
+      unsettled = ap (λ m. unsettled_in new + m) (counted old s pages n end below done.numbered is_unsettled refl)
+          ∙ done.unsettled;
       limit = done.limit;
       touches = done.touches;
     }
-  where
-    none-above : (k : Buf) → (IsDataPage k → ⊥) → page_of old k ≡ None
-    none-above k above = absent (page_of old k) (λ some. above (done.numbered (omega arith) k some))
-      where
-        absent : (x : Option Held) → (IsSome x → ⊥) → x ≡ None
-        absent None h = refl
-        absent (Some p) h = absurd (h refl)
-
-    as-file : (k : Buf) → (if is_among s 0 1008 k then None else page_of old k)
-        ≡ (if is_of s k then None else page_of old k)
-    as-file (Page t h) =
-        elim (cases_lt h 1008) [
-          | inl low ↦ let e : is_among s 0 1008 (Page t h) ≡ is_of s (Page t h) = among-below s t h 1008 low in
-              rw e refl
-          | inr high ↦
-              let none = none-above (Page t h) (λ low. omega arith) in
-              rw none (one-none (is_among s 0 1008 (Page t h)) None ∙ sym (one-none (is_of s (Page t h)) None))
-        ]
-      where
-        one-none : (test : Bool) (x : Option Held) → (if test then x else x) ≡ x
-        one-none true x = refl
-        one-none false x = refl
-    as-file Bitmap = refl
-    as-file (Dir h) = refl
-    as-file (Inode t) = refl
-
-    not-among : (k : Buf) → is_of s k ≡ false → is_among s 0 1008 k ≡ false
-    not-among (Page t h) other = among-others s t h 1008 other
-    not-among Bitmap other = refl
-    not-among (Dir h) other = refl
-    not-among (Inode t) other = refl

@@ -15,7 +15,8 @@
 //! but for how many calls there is room, and where there is room it doesn't come.
 //!
 //! A page is found by its key in a few steps, and the first dirty page and the victim in a number of steps that
-//! grows with the logarithm of the number of places. The bytes of a page are copied where it is loaded from
+//! grows with the logarithm of the number of places. The pages of a file that goes are looked for one by one, up to the
+//! number below which the caller says that all of them are. The bytes of a page are copied where it is loaded from
 //! bytes and where it is taken out with them, and never else. A page that was written all over with one byte, or
 //! loaded as one byte, takes no memory for its bytes: that byte is kept, and `fill_of` hands it on. Nor does such
 //! a page take memory where one part of it was written over, once or again with all of that part: the other byte

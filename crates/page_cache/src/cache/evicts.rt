@@ -1,5 +1,6 @@
 //! Pages that leave.
-ghost use Rattle.std.specs.Prelude.{◌≡◌, ◌≢◌, ◌≤◌, ℕ, None, IfNone, IfSome, IsSome, false};
+ghost use Rattle.std.specs.Prelude.{◌≡◌, ◌≢◌, ◌≤◌, ◌<◌, ℕ, None, IfNone, IfSome, IsSome, false};
+ghost use Rattle.split_types.specs.declared.buf.Buf.TheVariants.{Page};
 ghost use Rattle.cause_set.specs.Tags.{Moved, Covers, same, held};
 ghost use Rattle.page_cache.specs.Cached.{page_of, is_idle, tags_in, causes_of, IsDataPage};
 ghost use Rattle.page_cache.specs.Changes.{ChangesOnly, Frees, IsVictim, KeepsTouches};
@@ -32,16 +33,18 @@ impl<S: TagStore> Cache<S> {
         self.leave(at);
     }
 
-    /// No page of a file is held any more, and their tags are released.
-    pub fn free(&mut self, tags: &mut S, s: Serial)
-        requires { Covers same (tags_in self.old) (S.now tags.old) }
+    /// No page of a file is held any more, and their tags are released. Each of them has a number below `pages`.
+    pub fn free(&mut self, tags: &mut S, s: Serial, pages: u32)
+        requires tags { Covers same (tags_in self.old) (S.now tags.old) }
+        requires below { (g : ℕ) → IsSome (page_of self.old (Page s g)) → g < pages }
         ensures pages { Frees (S.now tags.old) (S.now tags.new) self.old self.new s }
         ensures moved { Moved (S.now tags.old) (S.now tags.new) (held same (tags_in self.old))
             (held same (tags_in self.new)) }
         ensures spare { self.new.spare ≡ self.old.spare }
         ensures tags_spare { (S.now tags.old).spare ≤ (S.now tags.new).spare }
     {
-        for page in 0..PAGES {
+        let end = pages.min(PAGES);
+        for page in 0..end {
             self.free_page(tags, Buf::Page(s, page));
         }
     }
