@@ -1,5 +1,5 @@
 -- How what a process sees has to do with what decides its next event.
-use Rattle.std.specs.Prelude.{◌≡◌, ℕ, List, false, sum, slice_range, Option, Some, None, is_some, IsSomeAnd, IfSome}
+use Rattle.std.specs.Prelude.{◌≡◌, ℕ, Bool, ◌&&◌, List, false, sum, slice_range, Option, Some, None, is_some, IsSomeAnd, IfSome}
 use Rattle.split_types.specs.declared.ids.Pid.{Pid}
 use Rattle.split_types.specs.declared.ids.Serial.{Serial}
 use Rattle.split_types.specs.declared.buf.Buf.{Buf}
@@ -14,6 +14,7 @@ use Rattle.page_cache.specs.Cached.{Cached, page_of, is_loading, is_unsettled, i
 use Rattle.page_cache.specs.Changes.{IsVictim, IsLoaded, bytes_in}
 use Rattle.client_calls.specs.declared.next.ClientNext.{ClientNext}
 use Rattle.client_calls.specs.declared.next.ClientNext.TheVariants.{Nothing, Wait, Act}
+use Rattle.client_calls.specs.declared.progress.Progress.{Progress}
 use Rattle.client_calls.specs.View.{View, is_crowded, is_full, piece_left}
 use Rattle.client_calls.specs.CallFile.{slot_in, file_in, is_name_taken}
 use Rattle.client_calls.specs.Space.{block_of, is_without_space, is_in_run}
@@ -72,6 +73,20 @@ pub record Shows (p : Pid) (v : View) (s : ClientState) : Type 0 where
   pub moved : s.moved ≡ v.progress.moved
   pub got : s.got ≡ v.progress.sum
   pub piece : ShowsLeft p v (file_in v.files.slots v.progress.bound) (piece_left v.progress) s.piece
+
+-- the call is under way, and was let in
+abbrev pub is_let_in : Progress → Bool
+is_let_in progress = is_some progress.call && progress.entered && progress.admitted
+
+-- what decides the next event of process p, as long as its call isn't let in, is how far it has come, and whether the
+-- scheduler lets its call in
+pub record ShowsCall (p : Pid) (progress : Progress) (may_admit : Bool) (s : ClientState) : Type 0 where
+  pub by : s.by ≡ p
+  pub number : s.number ≡ progress.number
+  pub call : s.call ≡ progress.call
+  pub entered : s.entered ≡ progress.entered
+  pub may_admit_is : s.may_admit ≡ may_admit
+  pub admitted : s.admitted ≡ progress.admitted
 
 -- the answer where this event comes next, if one does, and this call is under way or left, if one is
 abbrev pub answer_of : Option Event → Option Call → ClientNext

@@ -2,7 +2,8 @@
 //!
 //! A process sees a [`ClientView`]: the page cache, the live files, the blocks of the disk, the run of pages that
 //! writeback has just mapped, a few numbers of the stack, and its own [`Progress`]. From these [`next_event`] gives its
-//! next event, if it has one, and [`next_of`] says besides whether it waits or has nothing left to do.
+//! next event, if it has one, and [`next_of`] says besides whether it waits or has nothing left to do. Where its call
+//! isn't let in yet, [`next_before_admit`] gives the same event from its progress alone, and no view is wanted.
 //!
 //! A creat makes its file in the least free slot, an unlink drops its file, and each then returns. A read or write moves
 //! its pieces one after another, by rising byte; [`piece_left`] says which is the next one. A write that ends beyond the
@@ -38,7 +39,7 @@ mod view;
 mod working_file;
 mod writes;
 
-pub use next::{ClientNext, next_event, next_of};
+pub use next::{ClientNext, next_before_admit, next_event, next_of};
 pub use piece::{Piece, piece_left};
 pub use progress::Progress;
 pub use view::ClientView;

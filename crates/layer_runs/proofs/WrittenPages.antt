@@ -1,6 +1,6 @@
 -- The first pages of a file, written one after another into a cache of three places.
-use Rattle.std.proofs.Common.{◌≡◌, ◌≢◌, ◌∙◌, ℕ, ◌+◌, ◌<◌, Bool, true, false, Option, Some, None, is_some, IsSome, MatchOption, ap, refl, sym, subst, arith}
-use Rattle.std.proofs.lemmas.Bool.{both_ways}
+use Rattle.std.proofs.Common.{◌≡◌, ◌≢◌, ◌∙◌, ℕ, ◌+◌, ◌<◌, Bool, true, false, Option, Some, None, is_some, IsSome, MatchOption, ap, refl, sym, subst, arith, inl, inr}
+use Rattle.std.proofs.lemmas.Bool.{both_ways, cases_eq}
 use Rattle.split_types.specs.declared.ids.Pid.{Pid}
 use Rattle.split_types.specs.declared.ids.Serial.{Serial}
 use Rattle.split_types.specs.declared.buf.Buf.{Buf}
@@ -63,3 +63,20 @@ ready_is_held c b ready = by_page (page_of c b) ready
     by_page : (x : Option Held) → is_ready x ≡ true → is_some x ≡ true
     by_page None ready = absurd (cc)
     by_page (Some p) ready = refl
+
+-- where nothing was held, the one page that changed is all of its file that is held
+pub only_page : (old new : Cached) (s : Serial) (n : ℕ) → ((b : Buf) → page_of old b ≡ None)
+    → ((b : Buf) → b ≢ Page s n → page_of new b ≡ page_of old b) → (k : ℕ) → IsSome (page_of new (Page s k)) → k ≡ n
+only_page old new s n empty others k there = elim (cases_eq k n) [
+  | inl is ↦ is
+  | inr apart ↦
+      (let none : page_of new (Page s k) ≡ None =
+      others (Page s k) (λ same. apart (page_is same)) ∙ empty (Page s k)
+      in absurd (nothing (subst (λ (x : Option Held). IsSome x) none there)))
+]
+  where
+    page_is : Page s k ≡ Page s n → k ≡ n
+    page_is same = cc
+
+    nothing : IsSome {T = Held} None → ⊥
+    nothing is = absurd (cc)

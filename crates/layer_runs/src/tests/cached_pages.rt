@@ -1,5 +1,5 @@
 //! Pages through a cache.
-ghost use Rattle.std.specs.Prelude.{◌≡◌, true, IfOk};
+ghost use Rattle.std.specs.Prelude.{◌≡◌, ℕ, true, IfOk, IsSome};
 ghost use Rattle.split_types.specs.declared.buf.Buf.TheVariants.{Page};
 ghost use Rattle.cause_set.specs.Tags.{Covers, same};
 ghost use Rattle.page_cache.specs.Cached.{IsDataPage, is_loading, page_of, tags_in};
@@ -26,6 +26,7 @@ fn one_page<S: TagStore>(alloc: Global, tags: &mut S, s: Serial) -> Result<Cache
     ensures loaded { IfOk result (λ c. IsLoaded c (Page s 3)) }
     ensures ready { IfOk result (λ c. IsReady c (Page s 3)) }
     ensures covers { IfOk result (λ c. Covers same (tags_in c) (S.now tags.new)) }
+    ensures alone { IfOk result (λ c. (g : ℕ) → IsSome (page_of c (Page s g)) → g ≡ 3) }
 {
     let mut cache = Cache::new(alloc, 2)?;
     cache.write(alloc, tags, Buf::Page(s, 3), 0, 10, 7, Pid(2))?;
@@ -43,7 +44,7 @@ fn summed_and_freed<S: TagStore>(
     let peeked = cache.peek_sum(b, 5, 12);
     let sum = cache.get(b, 5, 12);
     let dirty = cache.first_dirty();
-    cache.free(tags, Serial(0));
+    cache.free(tags, Serial(0), 4);
     Ok((peeked, sum, dirty, cache.held()))
 }
 

@@ -1,6 +1,8 @@
 //! What a process does next.
 use cause_set::PlainTags;
-use client_calls::{ClientNext, ClientView, Piece, Progress, next_event, next_of, piece_left};
+use client_calls::{
+    ClientNext, ClientView, Piece, Progress, next_before_admit, next_event, next_of, piece_left,
+};
 use delayed_alloc::Alloc;
 use page_cache::Cache;
 use small_fs::Fs;
@@ -138,5 +140,88 @@ fn files_are_made_dropped_and_full(rt: HostRuntime) -> Result<(), Fail> {
         assert_eq!(rt; next, ClientNext::Act(due), "{call:?}");
         assert_eq!(rt; event, Some(due), "{call:?}");
     }
+    Ok(())
+}
+
+/// What process 1 does next in an admitted fsync of the file of three pages, which was flushed or not, where its data is on
+/// the disk or not, and the file's last change is committed or not.
+fn next_in_fsync(
+    alloc: Global,
+    name: Name,
+    acted: bool,
+    flushable: bool,
+    committed: bool,
+) -> Result<ClientNext, AllocError> {
+    let cache = Cache::<PlainTags>::new(alloc, 4)?;
+    let fs = three_pages(alloc, name)?;
+    let blocks = Alloc::new(alloc, 1024, 498)?;
+    let view = ClientView {
+        cache: &cache,
+        places: 4,
+        n: 1,
+        fs: &fs,
+        alloc: &blocks,
+        mapped: None,
+        progress: Progress {
+            acted,
+            ..admitted(Call::Fsync { name })
+        },
+        may_admit: true,
+        flushable,
+        committed,
+        next_id: ReqId(7),
+    };
+    Ok(next_of(Pid(1), &view))
+}
+
+#[test]
+fn an_fsync_is_flushed_and_returns(rt: HostRuntime) -> Result<(), Fail> {
+    let name = super::found(Name::new(b"a"))?;
+    let flushed = Event::Flushed { by: Pid(1) };
+    let rows = [
+        (false, false, true, ClientNext::Wait),
+        (false, true, false, ClientNext::Act(flushed)),
+        (true, true, false, ClientNext::Wait),
+        (true, true, true, ClientNext::Act(ret(Reply::Done))),
+    ];
+    for (acted, flushable, committed, due) in rows {
+        let next = next_in_fsync(rt.alloc(), name, acted, flushable, committed)?;
+        assert_eq!(rt; next, due, "{acted} {flushable} {committed}");
+    }
+    Ok(())
+}
+
+/// The next event of process 2 by its progress alone, whose scheduler lets calls in.
+fn next_early(progress: &Progress) -> Option<Option<Event>> {
+    next_before_admit(Pid(2), progress, true)
+}
+
+#[test]
+fn a_call_is_entered_and_let_in_without_a_view(rt: HostRuntime) -> Result<(), Fail> {
+    let name = super::found(Name::new(b"a"))?;
+    let inside = admitted(reading(name));
+    let outside = Progress {
+        number: 3,
+        entered: false,
+        admitted: false,
+        ..inside
+    };
+    let waiting = Progress {
+        entered: true,
+        ..outside
+    };
+    let enters = Event::Enter { by: Pid(2), k: 3 };
+    assert_eq!(rt; next_early(&outside), Some(Some(enters)));
+    assert_eq!(rt;
+        next_early(&waiting),
+        Some(Some(Event::Admit { by: Pid(2) }))
+    );
+    assert_eq!(rt; next_early(&inside), None);
+    assert_eq!(rt; next_before_admit(Pid(2), &waiting, false), Some(None));
+    let ended = Progress {
+        call: None,
+        ..outside
+    };
+    assert_eq!(rt; next_early(&ended), Some(None));
     Ok(())
 }

@@ -5,6 +5,7 @@ use Rattle.page_cache.specs.Held.{Held, state_in}
 use Rattle.page_cache.specs.Cached.{page_of, is_ready}
 use Rattle.page_cache.specs.Changes.{page_as, bytes_in}
 use Rattle.page_cache.specs.Bytes.{filled}
+use Rattle.layer_runs.proofs.WrittenPages.{only_page}
 use Rattle.layer_runs.proofs.tests.cached_pages.one_page.Goals as goal
 
 pub returns-clause-loaded : goal.returns-clause-loaded
@@ -29,3 +30,7 @@ returns-clause-ready g c =
 
 pub returns-clause-covers : goal.returns-clause-covers
 returns-clause-covers g c = λ n. omega (arith, c.write.ensures.moved.uses n, c.in_ok-cache.ensures.tags n)
+
+pub returns-clause-alone : goal.returns-clause-alone
+returns-clause-alone g c =
+    only_page c.in_ok-cache.cache c.write.new.self c.args.s 3 c.in_ok-cache.ensures.empty c.in_ok-write.ensures.ok.page.others
