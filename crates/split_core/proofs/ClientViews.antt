@@ -1,5 +1,5 @@
 -- What a process sees of the stack is what decides its next event.
-use Rattle.std.proofs.Common.{◌≡◌, ℕ, ◌-◌, ◌≤◌, List, length, filter, sum, slice_range, true, false, ◌&&◌, ◌||◌}
+use Rattle.std.proofs.Common.{◌≡◌, ℕ, ◌-◌, ◌≤◌, List, length, sum, slice_range, Bool, true, false, ◌&&◌, ◌||◌}
 use Rattle.std.proofs.Common.{Option, Some, None, is_some, refl, ap, sym, ◌∙◌, subst, nat_le, option_map}
 use Rattle.std.specs.Prelude.{IsSomeAnd, IfSome}
 use Rattle.std.proofs.lemmas.Bool.{cond-true, le-leb, and_from}
@@ -9,13 +9,11 @@ use Rattle.split_types.specs.declared.ids.ReqId.{ReqId}
 use Rattle.split_types.specs.declared.actor.Actor.TheVariants.{Client}
 use Rattle.split_types.specs.declared.buf.Buf.TheVariants.{Page}
 use Rattle.split_types.specs.declared.call.Call.{Call}
-use Rattle.split_types.specs.declared.call.Call.TheVariants.{Fsync}
 use Rattle.split_types.specs.declared.request.Run.{Run}
 use Rattle.split_types.specs.declared.workload.Workload.{Workload}
 use Rattle.split_types.specs.declared.event.Event.{Event}
 use Rattle.split_types.specs.History.{adds}
-use Rattle.split_types.specs.Calls.{call_of, returned}
-use Rattle.split_types.specs.Workloads.{is_call_of}
+use Rattle.split_types.specs.Calls.{call_of}
 use Rattle.split_types.specs.Files.{is_live, bound_file}
 use Rattle.split_types.specs.FileSizes.{working_file, size_at_admit}
 use Rattle.split_types.specs.FileSlots.{slot_of_some}
@@ -28,10 +26,11 @@ use Rattle.split_types.specs.PagesInCache.{IsThere}
 use Rattle.split_types.specs.Clients.{piece_state, state_left, client_state, next_of_client}
 use Rattle.split_types.specs.Writeback.{service}
 use Rattle.split_types.specs.Next.{next}
+use Rattle.split_types.specs.Syncing.{admit_place, awaited_txn, is_written, is_safe}
 use Rattle.split_types.specs.FilesInOrder.{AreFiles}
-use Rattle.split_types.specs.Accepted.{IsBuiltCall, IsAccepted}
+use Rattle.split_types.specs.Accepted.{IsAccepted}
 use Rattle.split_types.specs.Legal.{IsLegal}
-use Rattle.split_types.proofs.Shared.{files_are_in_order, maps_known, live_of, map_there, filter_there, all_at}
+use Rattle.split_types.proofs.Shared.{files_are_in_order, maps_known, live_of}
 use Rattle.cause_set.specs.Tags.{Tags}
 use Rattle.page_cache.specs.Held.{Held}
 use Rattle.page_cache.specs.Cached as cached
@@ -40,20 +39,31 @@ use Rattle.client_calls.specs.declared.next.ClientNext.TheVariants.{Nothing, Wai
 use Rattle.client_calls.specs.View.{View, piece_left}
 use Rattle.client_calls.specs.CallFile as called
 use Rattle.client_calls.specs.Space as space
-use Rattle.client_calls.specs.Shows.{ShowsPiece, ShowsLeft, Shows, answer_of}
+use Rattle.client_calls.specs.Shows.{ShowsPiece, ShowsLeft, Shows, ShowsCall, answer_of}
 use Rattle.split_core.specs.declared.note.pages.Pages.{Pages}
 use Rattle.split_core.specs.declared.note.filing.Filing.{Filing}
 use Rattle.split_core.specs.Pages.{PagesStand}
 use Rattle.split_core.specs.Filing.{FilingStands}
 use Rattle.split_core.specs.StandsFor.{Simulation}
 use Rattle.split_core.specs.Clients.{IsProgress, mapped_run}
+use Rattle.split_core.specs.Givens.{is_sync}
 use Rattle.split_core.proofs.ClientViewsPages.{none_badly, unsettled_in, evicted}
 use Rattle.split_core.proofs.ClientViewsFiles.{file_is, slot_is, name_taken_is, block_is, space_is, run_is}
 
 -- ---- what decides
+-- what is read of what an fsync waits for
+pub record Synced : Type 0 where
+  pub flushable : Bool
+  pub committed : Bool
+
+-- so it is where the call of process p is an fsync
+pub record SyncedIs (w : Workload) (h : List Event) (p : ℕ) (sync : Synced) : Type 0 where
+  pub flushable : is_sync (call_of w h p) ≡ true → sync.flushable ≡ is_written h (bound_file w h p) (admit_place h p)
+  pub committed : sync.committed ≡ is_safe h (awaited_txn w h p)
+
 -- what a process sees
-abbrev pub sees : Workload → Pages → Filing → ℕ → Option Run → Progress → ReqId → View
-sees w p f n run x id = record {
+abbrev pub sees : Workload → Pages → Filing → ℕ → Option Run → Progress → ReqId → Synced → View
+sees w p f n run x id sync = record {
   cache = p.cache;
   places = w.cache;
   n = n;
@@ -62,14 +72,14 @@ sees w p f n run x id = record {
   mapped = run;
   progress = x;
   may_admit = true;
-  flushable = false;
-  committed = false;
+  flushable = sync.flushable;
+  committed = sync.committed;
   next_id = id;
 }
 
 -- all that the view of a process stands for
 pub record Seen (w : Workload) (p : Pages) (f : Filing) (tags : Tags) (h : List Event) (q : Pid) (n : ℕ)
-    (run : Option Run) (x : Progress) (id : ReqId) : Type 0 where
+    (run : Option Run) (x : Progress) (id : ReqId) (sync : Synced) : Type 0 where
   pub accepted : IsAccepted w
   pub legal : IsLegal w h
   pub stands : PagesStand w p tags h
@@ -78,23 +88,27 @@ pub record Seen (w : Workload) (p : Pages) (f : Filing) (tags : Tags) (h : List 
   pub procs : n ≡ length w.procs
   pub run_is : run ≡ mapped_run (service h)
   pub number : id.0 ≡ adds h
+  pub synced : SyncedIs w h q.0 sync
 
 -- so is what is read of a core that is seen as v
 pub seen_from : (w : Workload) (p : Pages) (f : Filing) (tags : Tags) (h : List Event) (q : Pid) (n : ℕ)
-    (run : Option Run) (x : Progress) (id : ReqId) (v : Simulation)
+    (run : Option Run) (x : Progress) (id : ReqId) (sync : Synced) (v : Simulation)
     → (let s : Simulation = record { workload = w; history = h } in s) ≡ v → IsAccepted w → IsLegal w h
     → PagesStand w p tags h → FilingStands w f h → IsProgress v.workload v.history q.0 x → n ≡ length w.procs
-    → run ≡ mapped_run (service v.history) → id.0 ≡ adds h → Seen w p f tags h q n run x id
-seen_from w p f tags h q n run x id v view accepted legal stands filing progress procs serves number = record {
-  accepted = accepted;
-  legal = legal;
-  stands = stands;
-  filing = filing;
-  progress = subst (λ (s : Simulation). IsProgress s.workload s.history q.0 x) (sym view) progress;
-  procs = procs;
-  run_is = subst (λ (s : Simulation). run ≡ mapped_run (service s.history)) (sym view) serves;
-  number = number;
-}
+    → run ≡ mapped_run (service v.history) → id.0 ≡ adds h → SyncedIs w h q.0 sync
+    → Seen w p f tags h q n run x id sync
+seen_from w p f tags h q n run x id sync v view accepted legal stands filing progress procs serves number synced =
+    record {
+      accepted = accepted;
+      legal = legal;
+      stands = stands;
+      filing = filing;
+      progress = subst (λ (s : Simulation). IsProgress s.workload s.history q.0 x) (sym view) progress;
+      procs = procs;
+      run_is = subst (λ (s : Simulation). run ≡ mapped_run (service s.history)) (sym view) serves;
+      number = number;
+      synced = synced;
+    }
 
 in_order : (w : Workload) (h : List Event) → IsAccepted w → IsLegal w h → AreFiles w h
 in_order w h accepted legal = files_are_in_order w h accepted legal
@@ -105,10 +119,10 @@ loaded_there None loaded = absurd loaded
 loaded_there (Some p) loaded = (refl, loaded)
 
 shows_piece : (w : Workload) (p : Pages) (f : Filing) (tags : Tags) (h : List Event) (q : Pid) (n : ℕ)
-    (run : Option Run) (x : Progress) (id : ReqId) (s : Serial) (left : pieces.Piece)
-    → Seen w p f tags h q n run x id → is_live w h s.0 ≡ true
-    → ShowsPiece q s left (sees w p f n run x id) (piece_state w h q s left)
-shows_piece w p f tags h q n run x id s left seen live =
+    (run : Option Run) (x : Progress) (id : ReqId) (sync : Synced) (s : Serial) (left : pieces.Piece)
+    → Seen w p f tags h q n run x id sync → is_live w h s.0 ≡ true
+    → ShowsPiece q s left (sees w p f n run x id sync) (piece_state w h q s left)
+shows_piece w p f tags h q n run x id sync s left seen live =
     let stands = seen.stands in
     let b = Page s left.page in
     let y = cached.page_of p.cache b in
@@ -147,20 +161,20 @@ shows_piece w p f tags h q n run x id s left seen live =
     }
 
 shows_some : (w : Workload) (p : Pages) (f : Filing) (tags : Tags) (h : List Event) (q : Pid) (n : ℕ)
-    (run : Option Run) (x : Progress) (id : ReqId) (s : Serial) (left : Option pieces.Piece)
-    → Seen w p f tags h q n run x id → is_live w h s.0 ≡ true
-    → ShowsLeft q (sees w p f n run x id) (Some s) left (option_map (piece_state w h q s) left)
-shows_some w p f tags h q n run x id s None seen live = refl
-shows_some w p f tags h q n run x id s (Some left) seen live =
-    shows_piece w p f tags h q n run x id s left seen live
+    (run : Option Run) (x : Progress) (id : ReqId) (sync : Synced) (s : Serial) (left : Option pieces.Piece)
+    → Seen w p f tags h q n run x id sync → is_live w h s.0 ≡ true
+    → ShowsLeft q (sees w p f n run x id sync) (Some s) left (option_map (piece_state w h q s) left)
+shows_some w p f tags h q n run x id sync s None seen live = refl
+shows_some w p f tags h q n run x id sync s (Some left) seen live =
+    shows_piece w p f tags h q n run x id sync s left seen live
 
 shows_left : (w : Workload) (p : Pages) (f : Filing) (tags : Tags) (h : List Event) (q : Pid) (n : ℕ)
-    (run : Option Run) (x : Progress) (id : ReqId) (file : Option Serial) → Seen w p f tags h q n run x id
-    → working_file w h q.0 ≡ file
-    → ShowsLeft q (sees w p f n run x id) file (pieces.piece_left w h q.0) (state_left w h q file)
-shows_left w p f tags h q n run x id None seen is = refl
-shows_left w p f tags h q n run x id (Some s) seen is =
-    shows_some w p f tags h q n run x id s (pieces.piece_left w h q.0) seen
+    (run : Option Run) (x : Progress) (id : ReqId) (sync : Synced) (file : Option Serial)
+    → Seen w p f tags h q n run x id sync → working_file w h q.0 ≡ file
+    → ShowsLeft q (sees w p f n run x id sync) file (pieces.piece_left w h q.0) (state_left w h q file)
+shows_left w p f tags h q n run x id sync None seen is = refl
+shows_left w p f tags h q n run x id sync (Some s) seen is =
+    shows_some w p f tags h q n run x id sync s (pieces.piece_left w h q.0) seen
     (live_of w h (bound_file w h q.0) s is)
 
 -- the first piece that is left
@@ -174,20 +188,23 @@ left_is w h p x is =
 admits_all : (w : Workload) (h : List Event) (p : ℕ) → IsAccepted w → admits w h p ≡ true
 admits_all w h p accepted = rw accepted.built.sched refl
 
--- no call is an fsync so far
-no_fsync : (w : Workload) (p : ℕ) (name : List ℕ) (h : List Event) → IsAccepted w
-    → call_of w h p ≡ Some (Fsync name) → ⊥
-no_fsync w p name h accepted at =
-    let call = map_there (λ (x : Pid × Call). x.1) (filter (is_call_of p) w.calls) (returned h p) (Fsync name) at
-    in let line = filter_there (is_call_of p) w.calls (returned h p) call.0 call.1
-    in subst IsBuiltCall call.2
-    (all_at (λ (c : Pid × Call). IsBuiltCall c.1) w.calls line.0 call.0 accepted.built.calls line.1)
+-- how far a process has come shows what decides its next event before its call is let in
+pub shows_call : (w : Workload) (h : List Event) (q : Pid) (x : Progress) → IsAccepted w → IsProgress w h q.0 x
+    → ShowsCall q x true (client_state w h q)
+shows_call w h q x accepted is = record {
+  by = refl;
+  number = sym is.number;
+  call = sym is.call;
+  entered = sym is.entered;
+  may_admit_is = admits_all w h q.0 accepted;
+  admitted = sym is.admitted;
+}
 
 -- the file that a call is bound to, as it is seen
 seen_file : (w : Workload) (p : Pages) (f : Filing) (tags : Tags) (h : List Event) (q : Pid) (n : ℕ)
-    (run : Option Run) (x : Progress) (id : ReqId) → Seen w p f tags h q n run x id
+    (run : Option Run) (x : Progress) (id : ReqId) (sync : Synced) → Seen w p f tags h q n run x id sync
     → working_file w h q.0 ≡ called.file_in f.fs.slots x.bound
-seen_file w p f tags h q n run x id seen =
+seen_file w p f tags h q n run x id sync seen =
     file_is w h (bound_file w h q.0) (in_order w h seen.accepted seen.legal)
     ∙ ap (λ slots. called.file_in slots (bound_file w h q.0)) (sym seen.filing.files.slots)
     ∙ ap (called.file_in f.fs.slots) (sym seen.progress.bound)
@@ -197,17 +214,17 @@ abbrev IsSlotOf : Workload → List Event → ℕ → Option ℕ → Type 0
 IsSlotOf w h p o = IfSome o (λ slot. slot_of_some w h (working_file w h p) ≡ record { 0 = slot })
 
 seen_slot : (w : Workload) (p : Pages) (f : Filing) (tags : Tags) (h : List Event) (q : Pid) (n : ℕ)
-    (run : Option Run) (x : Progress) (id : ReqId) → Seen w p f tags h q n run x id
+    (run : Option Run) (x : Progress) (id : ReqId) (sync : Synced) → Seen w p f tags h q n run x id sync
     → IsSlotOf w h q.0 (called.slot_in f.fs.slots x.bound)
-seen_slot w p f tags h q n run x id seen =
+seen_slot w p f tags h q n run x id sync seen =
     subst (λ o. IsSlotOf w h q.0 (called.slot_in f.fs.slots o)) (sym seen.progress.bound)
     (subst (λ slots. IsSlotOf w h q.0 (called.slot_in slots (bound_file w h q.0))) (sym seen.filing.files.slots)
     (slot_is w h (bound_file w h q.0) (in_order w h seen.accepted seen.legal)))
 
 pub shows : (w : Workload) (p : Pages) (f : Filing) (tags : Tags) (h : List Event) (q : Pid) (n : ℕ)
-    (run : Option Run) (x : Progress) (id : ReqId) → Seen w p f tags h q n run x id
-    → Shows q (sees w p f n run x id) (client_state w h q)
-shows w p f tags h q n run x id seen =
+    (run : Option Run) (x : Progress) (id : ReqId) (sync : Synced) → Seen w p f tags h q n run x id sync
+    → Shows q (sees w p f n run x id sync) (client_state w h q)
+shows w p f tags h q n run x id sync seen =
     let is = seen.progress in
     let file = working_file w h q.0 in
     let serial : ℕ → Serial = λ m. record { 0 = m } in
@@ -219,23 +236,23 @@ shows w p f tags h q n run x id seen =
       may_admit = admits_all w h q.0 seen.accepted;
       admitted = sym is.admitted;
       acted = sym is.acted;
-      flushable = λ name asked. absurd (no_fsync w q.0 name h seen.accepted (sym is.call ∙ asked));
-      committed = λ name asked. absurd (no_fsync w q.0 name h seen.accepted (sym is.call ∙ asked));
+      flushable = λ name asked. sym (seen.synced.flushable (ap is_sync (sym is.call ∙ asked)));
+      committed = λ name asked. sym seen.synced.committed;
       name_taken =
           name_taken_is w h (call_of w h q.0) (in_order w h seen.accepted seen.legal)
           ∙ ap (λ slots. called.is_name_taken slots (call_of w h q.0)) (sym seen.filing.files.slots)
           ∙ ap (called.is_name_taken f.fs.slots) (sym is.call);
       free_slot = ap free_slot (sym seen.filing.files.slots);
       new_serial = ap serial (sym seen.filing.files.next);
-      file = seen_file w p f tags h q n run x id seen;
-      slot = seen_slot w p f tags h q n run x id seen;
+      file = seen_file w p f tags h q n run x id sync seen;
+      slot = seen_slot w p f tags h q n run x id sync seen;
       moved = sym is.moved;
       got = sym is.sum;
       piece =
-          subst (λ o. ShowsLeft q (sees w p f n run x id) o (piece_left x) (state_left w h q file))
-          (seen_file w p f tags h q n run x id seen)
-          (subst (λ l. ShowsLeft q (sees w p f n run x id) file l (state_left w h q file))
-          (sym (left_is w h q.0 x is)) (shows_left w p f tags h q n run x id file seen refl));
+          subst (λ o. ShowsLeft q (sees w p f n run x id sync) o (piece_left x) (state_left w h q file))
+          (seen_file w p f tags h q n run x id sync seen)
+          (subst (λ l. ShowsLeft q (sees w p f n run x id sync) file l (state_left w h q file))
+          (sym (left_is w h q.0 x is)) (shows_left w p f tags h q n run x id sync file seen refl));
     }
 
 -- ---- what comes of the answer

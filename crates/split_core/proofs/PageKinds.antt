@@ -1,5 +1,5 @@
 -- What stands after an event, by its kind.
-use Rattle.std.proofs.Common.{◌≡◌, ℕ, ◌<◌, ◌≤◌, List, Bool, true, false, Option, None, is_some, refl, ap, sym, subst}
+use Rattle.std.proofs.Common.{◌≡◌, ℕ, ◌*◌, ◌<◌, ◌≤◌, List, Bool, true, false, Option, None, is_some, refl, ap, sym, subst}
 use Rattle.std.proofs.Common.{◌∙◌, arith}
 use Rattle.split_types.specs.declared.ids.Pid.{Pid}
 use Rattle.split_types.specs.declared.ids.Serial.{Serial}
@@ -13,12 +13,15 @@ use Rattle.split_types.specs.History.{◌▹◌}
 use Rattle.cause_set.specs.Tags.{Tags, held, same, use_in}
 use Rattle.page_cache.specs.Cached.{Cached, page_of, is_loading, tags_in}
 use Rattle.page_cache.specs.Changes.{ChangesOnly, ChangesEach, Frees, KeepsTouches, IsVictim, unpinned}
+use Rattle.split_core.specs.declared.parts.Given.{Given}
 use Rattle.split_core.specs.declared.note.pages.Pages.{Pages}
+use Rattle.split_core.specs.Givens.{IsGiven, GivenDrop}
 use Rattle.split_core.specs.Pages.{CacheStands, PagesBefore, PagesAfter, Gets}
 use Rattle.split_core.proofs.PageNotes.{pages_ret, pages_get, pages_hole}
 use Rattle.split_core.proofs.PageTags.{Moves, tags_kept}
 use Rattle.split_core.proofs.PageLoads.{none_held}
 use Rattle.split_core.proofs.PageDrops.{pages_drop}
+use Rattle.split_core.proofs.HeldWithin.{held_size}
 use Rattle.split_core.proofs.PageEvicts.{idle_rests, victim_is, pages_evict}
 
 pub after_as : (w : Workload) (p q : Pages) (before after : Tags) (h : List Event) (e d : Event) → e ≡ d
@@ -72,6 +75,16 @@ get_loaded w h e by s g from to sum p tags is before =
     in (b.stands.loading_are s g ∙ b.fits.kind.loaded, b.fits.kind.some, b.fits.kind.most)
 
 -- ---- a drop
+-- each page of the file that is held lies below the size that is handed on
+pub drop_within : (w : Workload) (h : List Event) (e : Event) (by : Pid) (slot : Slot) (s : Serial) (p : Pages)
+    (tags : Tags) (given : Given) → e ≡ Drop by slot s → PagesBefore w p tags h e → IsGiven w h e given → (g : ℕ)
+    → is_some (page_of p.cache (Page s g)) ≡ true → 4096 * g < given.size
+drop_within w h e by slot s p tags given is before handed g held =
+    let b = before_as w p tags h e (Drop by slot s) is before
+    in let drop : GivenDrop w h s given = subst (λ (x : Event). IsGiven w h x given) is handed
+    in let below = held_size w h s g b.accepted b.fits.legal.1 (sym (b.stands.held_are s g) ∙ held)
+    in omega (arith, below, drop.size_is)
+
 pub after_drop : (w : Workload) (h : List Event) (e : Event) (by : Pid) (slot : Slot) (s : Serial) (p q : Pages)
     (before after : Tags) → e ≡ Drop by slot s → PagesBefore w p before h e → Frees before after p.cache q.cache s
     → Moves before after p.cache q.cache → PagesAfter w p q before after (h ▹ e)

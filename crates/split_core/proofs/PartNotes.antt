@@ -99,6 +99,7 @@ roomy w p q tags h stands same pages moved = record {
   tags = λ n. omega (arith, stands.tags n, same n, moved.uses n);
   journaling = journal_stays w p.journaling (tags_of p.tags) (tags_of tags) no_use no_use h moved
       (λ n. omega (arith, stands.tags n)) stands.journaling;
+  syncs = stands.syncs;
   medium = stands.medium;
   book = stands.book;
   dispatch = stands.dispatch;

@@ -24,15 +24,15 @@ use Rattle.split_types.proofs.Shared.{known_once, StandsIn, pages_are_known}
 use Rattle.split_types.proofs.PromiseCounts.{count_both, count_nothing}
 
 -- ---- a page that was put lies within its file
-grown : (test : Bool) (size end m : ℕ) → m < size → m < (if test then max size end else size)
+pub grown : (test : Bool) (size end m : ℕ) → m < size → m < (if test then max size end else size)
 grown true size end m below = omega (arith, below)
 grown false size end m below = below
 
-grown_here : (test : Bool) (size end m : ℕ) → test ≡ true → m < end → m < (if test then max size end else size)
+pub grown_here : (test : Bool) (size end m : ℕ) → test ≡ true → m < end → m < (if test then max size end else size)
 grown_here true size end m is below = omega (arith, below)
 grown_here false size end m is below = absurd (cc)
 
-put_size : (w : Workload) (h : List Event) (s : Serial) (g : ℕ) → IsAccepted w → IsLegal w h
+pub put_size : (w : Workload) (h : List Event) (s : Serial) (g : ℕ) → IsAccepted w → IsLegal w h
     → is_put_since h (Page s g) ≡ true → 4096 * g < size_of w h s.0
 put_size w [] s g accepted legal put = absurd (cc)
 put_size w (h ▹ Put by t k from to fill) s g accepted legal put =

@@ -4,6 +4,8 @@ pub mod Asks
 pub mod Givens
 pub mod Awaits
 pub mod Clients
+pub mod PageSets
+pub mod PageSetFields
 pub mod Filing
 pub mod Pages
 pub mod Book
@@ -13,6 +15,7 @@ pub mod Cargo
 pub mod Medium
 pub mod Served
 pub mod Journaling
+pub mod Syncs
 pub mod Time
 pub mod Money
 pub mod Counts

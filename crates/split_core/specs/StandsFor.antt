@@ -17,6 +17,7 @@ use Rattle.split_core.specs.Book.{BookStands}
 use Rattle.split_core.specs.Dispatch.{DispatchStands}
 use Rattle.split_core.specs.Served.{ServedStands, held_by_service}
 use Rattle.split_core.specs.Journaling.{JournalStands, held_by_journal}
+use Rattle.split_core.specs.Syncs.{SyncsStand}
 use Rattle.split_core.specs.Time.{TimeStands}
 use Rattle.split_core.specs.Money.{MoneyStands}
 use Rattle.split_core.specs.Counts.{CountsStand}
@@ -39,6 +40,7 @@ pub record PartsStand (w : Workload) (p : Parts) (h : List Event) : Type 0 where
   pub pages : PagesStand w p.pages (tags_of p.tags) h
   pub tags : TagsStand p
   pub journaling : JournalStands w p.journaling (tags_of p.tags) h
+  pub syncs : SyncsStand w p.syncs h
   pub medium : MediumStands w p.medium h
   pub book : BookStands p.book h
   pub dispatch : DispatchStands p.dispatch h

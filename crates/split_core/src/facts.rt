@@ -7,6 +7,7 @@ ghost use Rattle.split_types.specs.declared.event.Event.{Event};
 ghost use Rattle.split_types.specs.Accepted.{IsAccepted};
 ghost use Rattle.split_types.specs.FactsOf.{is_queued, shares_of, request_fact, facts_of};
 ghost use Rattle.split_types.specs.Legal.{is_drained};
+ghost use Rattle.split_types.specs.LiveSets.{live_sets};
 ghost use Rattle.split_core.specs.Book.{IsEntry, AreEntries};
 
 use crate::machine::Core;
@@ -89,6 +90,14 @@ impl Core {
         }
         let journal = &parts.journaling.journal;
         !journal.can_seal() && journal.next_request(true).is_none()
+    }
+
+    /// How many different sets of processes the stack keeps: of those to blame for dirty pages and blocks of metadata, for
+    /// what goes home, for the run that is served, and for the transactions in the journal.
+    pub fn sets(&self) -> usize
+        ensures { result ≡ live_sets self.now.history }
+    {
+        self.parts.tags.sets()
     }
 
     /// What a report shows.

@@ -6,7 +6,7 @@ ghost use Rattle.split_core.specs.Clients.{IsProgress};
 ghost use Rattle.split_core.specs.Dispatch.{is_ordered_done};
 
 use crate::machine::Core;
-use client_calls::{ClientView, Progress, next_event};
+use client_calls::{ClientView, Progress, next_before_admit, next_event};
 use cost_model::cost;
 use sched_api::{FifoSched, SchedView, SplitSched};
 use split_types::{Actor, Event, Pid, ReqId, Serial};
@@ -53,6 +53,10 @@ impl Core {
         if client.awaits && self.is_there(client.file) {
             return None;
         }
+        let progress = self.progress(p);
+        if let Some(next) = next_before_admit(p, &progress, true) {
+            return next;
+        }
         let view = ClientView {
             cache: &self.parts.pages.cache,
             places: self.workload.cache,
@@ -60,10 +64,18 @@ impl Core {
             fs: &self.parts.filing.fs,
             alloc: &self.parts.filing.alloc,
             mapped: self.mapped(),
-            progress: self.progress(p),
+            progress,
             may_admit: true,
-            flushable: false,
-            committed: false,
+            flushable: self
+                .parts
+                .syncs
+                .is_written(&self.workload, &self.history, p),
+            committed: self.parts.syncs.is_safe(
+                &self.workload,
+                &self.history,
+                &self.parts.journaling.journal,
+                p,
+            ),
             next_id: ReqId(self.parts.book.entries.len() as u32),
         };
         next_event(p, &view)

@@ -10,6 +10,8 @@ pub(crate) mod journaling;
 pub(crate) mod medium;
 pub(crate) mod money;
 pub(crate) mod ordered;
+pub(crate) mod page_set;
 pub(crate) mod pages;
 pub(crate) mod service;
+pub(crate) mod syncs;
 pub(crate) mod time;

@@ -17,7 +17,7 @@ ghost use Rattle.split_types.specs.Accepted.{IsAccepted};
 ghost use Rattle.split_core.specs.Plans.{PlanStands};
 ghost use Rattle.split_core.specs.Asks.{asks};
 ghost use Rattle.split_core.specs.Fits.{ClientFits, DropFits, IsFilePage, Fits};
-ghost use Rattle.split_core.specs.Givens.{IsGiven, GivenDrop, GivenDone};
+ghost use Rattle.split_core.specs.Givens.{IsGiven, GivenDrop, GivenDone, is_sync};
 ghost use Rattle.tag_table.specs.Tags.{tags_of};
 ghost use Rattle.split_core.specs.Book.{BookStands};
 ghost use Rattle.split_core.specs.Clients.{ClientsStand};
@@ -42,6 +42,7 @@ use crate::note::medium::Medium;
 use crate::note::money::Money;
 use crate::note::pages::{Pages, Taken};
 use crate::note::service::Served;
+use crate::note::syncs::Syncs;
 use crate::note::time::Time;
 use crate::plan::Plan;
 use cause_set::{Causes, TagStore};
@@ -64,6 +65,7 @@ pub(crate) struct Parts {
     pub(crate) filing: Filing,
     pub(crate) pages: Pages,
     pub(crate) journaling: Journaling,
+    pub(crate) syncs: Syncs,
     /// The store of the tags that pages, the journal and the run that is served have.
     pub(crate) tags: Table,
     pub(crate) medium: Medium,
@@ -77,8 +79,8 @@ pub(crate) struct Parts {
 
 /// What one part hands to another with an event: of a call that is admitted the file that it works on and the
 /// file's size; of a make the name of its file; of a put whether its page needs the promise of a free block; of a
-/// drop how many pages of the file have such a promise, and the transaction that takes it; of a send or completion
-/// its request, and of a completion the cost and the tag.
+/// drop the file's size, how many of its pages have such a promise, and the transaction that takes it; of a send or
+/// completion its request, and of a completion the cost and the tag.
 #[derive(Clone, Copy, Debug)]
 pub(crate) struct Given {
     pub(crate) file: Option<Serial>,
@@ -87,6 +89,7 @@ pub(crate) struct Given {
     pub(crate) promise: bool,
     pub(crate) promised: u32,
     pub(crate) next: Txn,
+    pub(crate) syncs: bool,
     pub(crate) request: Option<Request>,
     pub(crate) cost: u64,
     pub(crate) tag: Causes,
@@ -109,6 +112,13 @@ fn asks(e: &Event) -> bool
     )
 }
 
+/// Whether it is an fsync.
+fn is_sync(call: &Call) -> bool
+    ensures { result ≡ is_sync (Some call.now) }
+{
+    matches!(call, Call::Fsync { .. })
+}
+
 impl Given {
     /// Nothing.
     pub(crate) fn none() -> Given
@@ -123,6 +133,7 @@ impl Given {
             promise: false,
             promised: 0,
             next: Txn(0),
+            syncs: false,
             request: None,
             cost: 0,
             tag: Causes::none(),
@@ -191,6 +202,7 @@ impl Parts {
         let (money, counts) = sums(alloc, w)?;
         let (filing, medium) = device(alloc, w)?;
         let (pages, journaling) = memory(alloc, w)?;
+        let syncs = Syncs::new(alloc, w)?;
         let tags = Table::new(alloc)?;
         let dispatch = Dispatch::new(alloc)?;
         Ok(Parts {
@@ -198,6 +210,7 @@ impl Parts {
             filing,
             pages,
             journaling,
+            syncs,
             tags,
             medium,
             book,
@@ -265,6 +278,7 @@ impl Parts {
     {
         if let Some(call) = self.call_of(w, plan, h, p) {
             self.give_file(w, h, call, given);
+            given.syncs = is_sync(call);
         }
     }
 
@@ -316,6 +330,7 @@ impl Parts {
         requires file { DropFits w.now h.now.events slot serial }
         ensures { GivenDrop w.now h.now.events serial given.new }
     {
+        given.size = self.filing.fs.size_of(slot);
         given.promised = self.promises_of(w, h, slot, serial);
         given.next = self.journaling.next_txn(w, h);
     }
@@ -333,7 +348,11 @@ impl Parts {
     {
         match *e {
             Event::Admit { by } => self.give_admit(w, plan, h, by, given),
-            Event::Make { by, .. } => self.give_make(w, plan, h, by, given),
+            Event::Make { by, .. } => {
+                self.give_make(w, plan, h, by, given);
+                given.next = self.journaling.next_txn(w, h);
+            }
+            Event::Map { .. } => given.next = self.journaling.next_txn(w, h),
             Event::Put { serial, page, .. } => {
                 given.promise = self.is_promise_due(w, h, serial, page)
             }
@@ -462,6 +481,7 @@ impl Parts {
     {
         let actor = actor_of(e);
         let taken = self.note_holders(alloc, w, h, e, given, content);
+        self.syncs.note(w, h, &self.filing.fs, e, given);
         self.filing.note(alloc, w, h, e, given);
         self.clients.note(w, plan, h, actor, e, given);
         self.book.note(w, h, e, &taken.tag);

@@ -19,7 +19,7 @@ use Rattle.split_types.specs.Calls.{name_of}
 use Rattle.split_types.specs.Workloads.{span}
 use Rattle.split_types.specs.IsWorkload.{IsAccount, IsProcess, IsPreset, IsAsked, IsCall, IsTurnOf, IsGo}
 use Rattle.split_types.specs.WorkloadText.{Spells}
-use Rattle.split_types.specs.Accepted.{IsBuiltCall, IsAccepted}
+use Rattle.split_types.specs.Accepted.{IsAccepted}
 use Rattle.workload_reader.specs.declared.line.Line.{Line}
 use Rattle.workload_reader.specs.declared.line.Line.TheVariants as kind
 use Rattle.workload_reader.specs.Line.{IsFormed, place, stands, stage, said, with_line}
@@ -153,7 +153,6 @@ each_call : (w : Workload) → IsAccepted w → EachRight call_line (put_calls w
 each_call w h ys c zs is =
     let q = all_mid (IsCall (length w.procs)) ys c zs
     (subst (All (IsCall (length w.procs))) is h.workload.calls.each) in
-    let built = all_mid (λ c. IsBuiltCall c.1) ys c zs (subst (All (λ c. IsBuiltCall c.1)) is h.built.calls) in
     let few = few_mid w.calls ys c zs is in
     let pages = sum_mid (λ c. span c.1) w.calls ys c zs is in (
       call_named c.1 q.asked,
@@ -163,7 +162,7 @@ each_call w h ys c zs is =
         new = tt;
         few = (omega (arith, few, h.workload.calls.few), omega (arith, pages, h.workload.calls.few_pages));
         fits = tt;
-        built = built;
+        built = tt;
       },
     )
 

@@ -24,7 +24,7 @@ use Rattle.split_types.specs.Workloads.{first_block, span}
 use Rattle.split_types.specs.IsWorkload.{IsAccount, IsProcess, IsPreset, IsAsked, IsCall, IsTurnOf, IsGo}
 use Rattle.split_types.specs.IsWorkload.{most_processes, least_device}
 use Rattle.split_types.specs.WorkloadText.{workload_text, Spells}
-use Rattle.split_types.specs.Accepted.{IsBuiltCall, IsAccepted}
+use Rattle.split_types.specs.Accepted.{IsAccepted}
 use Rattle.workload_reader.specs.declared.line.Line.{Line}
 use Rattle.workload_reader.specs.declared.line.Line.TheVariants as kind
 use Rattle.workload_reader.specs.Line.{IsFormed, said, with_line, has_ended, lines_text}
@@ -169,7 +169,6 @@ record CallsSoFar (w : Workload) (calls : List (Pid × Call)) : Type 0 where
   few : length calls ≤ 65536
   few_pages : sum_by (λ c. span c.1) calls ≤ 131072
   each : All (IsCall (length w.procs)) calls
-  built : All (λ c. IsBuiltCall c.1) calls
 
 -- what is asked of a call, whose name is one
 asked : (c : Call) → IsTrue (is_name (name_of c)) → IsCallInRange c → IsAsked c
@@ -203,7 +202,6 @@ one_call w calls c formed right so = record {
         by_most = right.refers.most;
         asked = asked c.1 formed right.in_range;
       });
-  built = All-push (λ c. IsBuiltCall c.1) calls c so.built right.built;
 }
 
 one_fail : (w : Workload) (fails : List ℕ) (s : ℕ) → IsFormed (kind.Fail s) → IsRight (put_fails w fails) (kind.Fail s)
@@ -274,7 +272,6 @@ accepted w right =
       few = omega arith;
       few_pages = omega arith;
       each = All-nil (IsCall (length w.procs));
-      built = All-nil (λ c. IsBuiltCall c.1);
     }) in
     let none : w.fails ≡ [] = fails.1 refl in
     let gs : GoSoFar w w.go = go.1 (record { few = omega arith; each = All-nil (IsGo (length w.procs)) }) in
@@ -304,7 +301,6 @@ accepted w right =
         version = version.3.built;
         sched = sched.3.built;
         fails = none;
-        calls = cs.built;
       };
     }
 

@@ -12,7 +12,6 @@ use Rattle.split_types.specs.declared.workload.Go.{Go}
 use Rattle.split_types.specs.declared.workload.Workload.{Workload}
 use Rattle.split_types.specs.Workloads.{span, spans, preset_pages, go_turns, first_block}
 use Rattle.split_types.specs.IsWorkload.{IsAccount, least_device, most_processes}
-use Rattle.split_types.specs.Accepted.{IsBuiltCall}
 use Rattle.workload_reader.specs.declared.cause.Cause.{Cause}
 use Rattle.workload_reader.specs.declared.cause.Cause.TheVariants as cause
 use Rattle.workload_reader.specs.declared.line.Line.{Line}
@@ -102,7 +101,6 @@ Fits w _ = Unit {0}
 abbrev pub IsBuiltLine : Line → Type 0
 IsBuiltLine (kind.Version n) = n ≤ 2
 IsBuiltLine (kind.Sched s) = s ≡ Fifo
-IsBuiltLine (kind.Call p c) = IsBuiltCall c
 IsBuiltLine (kind.Fail s) = ⊥
 IsBuiltLine _ = Unit {0}
 

@@ -3,7 +3,6 @@ ghost use Rattle.std.specs.Prelude.{◌≡◌, ◌↔◌, ◌+◌, ◌<◌, ◌�
 ghost use Rattle.split_types.specs.Workloads.{first_block, preset_pages, span, spans};
 ghost use Rattle.std.specs.Str.{bytes_eq};
 ghost use Rattle.split_types.specs.IsWorkload.{most_processes};
-ghost use Rattle.split_types.specs.Accepted.{IsBuiltCall};
 ghost use Rattle.workload_reader.specs.Table.{InRange, Refers, IsNew, IsFew, Fits, IsBuiltLine, IsRight, Fails};
 
 use crate::adding::span;
@@ -13,19 +12,6 @@ use crate::line::Line;
 use crate::seen::Seen;
 use split_types::{Call, Name, Sched};
 
-/// Whether the call is built: any but an fsync.
-fn is_built_call(call: &Call) -> bool
-    ensures { IsTrue result ↔ IsBuiltCall call.now }
-{
-    match call {
-        Call::Creat { .. } => true,
-        Call::Write { .. } => true,
-        Call::Read { .. } => true,
-        Call::Fsync { .. } => false,
-        Call::Unlink { .. } => true,
-    }
-}
-
 /// Whether what the line asks for is built.
 fn is_built(line: &Line) -> bool
     ensures { IsTrue result ↔ IsBuiltLine line.now }
@@ -33,7 +19,6 @@ fn is_built(line: &Line) -> bool
     match line {
         Line::Version(n) => *n <= 2,
         Line::Sched(sched) => matches!(sched, Sched::Fifo),
-        Line::Call(_, call) => is_built_call(call),
         Line::Fail(_) => false,
         _ => true,
     }

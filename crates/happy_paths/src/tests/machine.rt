@@ -70,16 +70,18 @@ fn seen<L: Ledger>(alloc: Global, blank: Blank) -> Result<(Step, u32, bool, u32)
     stepped(&mut core, &mut steps)
 }
 
-/// The clock where the workload's turns are taken and the history is drained, and the workload's version.
+/// The clock where the workload's turns are taken and the history is drained, the workload's version, and how many sets
+/// are kept once the turns are taken.
 fn finished<L: Ledger>(
     alloc: Global,
     core: &mut Core,
     steps: &mut Steps<L>,
-) -> Result<(u64, u32), AllocError> {
+) -> Result<(u64, u32, usize), AllocError> {
     core.play(steps)?;
+    let sets = core.sets();
     core.drain(steps)?;
     let facts = core.facts(alloc)?;
-    Ok((facts.clock, core.workload().version))
+    Ok((facts.clock, core.workload().version, sets))
 }
 
 /// Whether a block of a core's disk has these bytes from a place on.
@@ -119,7 +121,7 @@ fn a_disk_has_metadata_and_pages_at_the_start(rt: HostRuntime) -> Result<(), Fai
 }
 
 /// The same, of a new core.
-fn played<L: Ledger>(alloc: Global, blank: Blank) -> Result<(u64, u32), AllocError>
+fn played<L: Ledger>(alloc: Global, blank: Blank) -> Result<(u64, u32, usize), AllocError>
     requires name { blank.name ≡ L.name }
     requires parts { blank.parts ≡ L.parts }
     requires some { 0 < L.parts }
@@ -132,12 +134,15 @@ fn played<L: Ledger>(alloc: Global, blank: Blank) -> Result<(u64, u32), AllocErr
 #[test]
 fn a_workload_is_played_and_drained(rt: HostRuntime) -> Result<(), Fail> {
     let shown = played::<Brand>(rt.alloc(), Blank::new(1))?;
-    assert_eq!(rt; shown, (52, 1));
+    assert_eq!(rt; shown, (52, 1, 0));
     Ok(())
 }
 
 /// The same, of a new core that makes and drops files.
-fn played_with_files<L: Ledger>(alloc: Global, blank: Blank) -> Result<(u64, u32), AllocError>
+fn played_with_files<L: Ledger>(
+    alloc: Global,
+    blank: Blank,
+) -> Result<(u64, u32, usize), AllocError>
     requires name { blank.name ≡ L.name }
     requires parts { blank.parts ≡ L.parts }
     requires some { 0 < L.parts }
@@ -150,7 +155,7 @@ fn played_with_files<L: Ledger>(alloc: Global, blank: Blank) -> Result<(u64, u32
 #[test]
 fn files_are_made_and_dropped(rt: HostRuntime) -> Result<(), Fail> {
     let shown = played_with_files::<Brand>(rt.alloc(), Blank::new(1))?;
-    assert_eq!(rt; shown, (390, 2));
+    assert_eq!(rt; shown, (390, 2, 1));
     Ok(())
 }
 

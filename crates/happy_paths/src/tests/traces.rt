@@ -272,8 +272,8 @@ const BEHIND: [(u32, Cause, &str); 16] = [
     (7, Cause::Cut, "end"),
     (7, Cause::NotBuilt, "fail 0\n"),
     (
-        9,
-        Cause::NotBuilt,
+        10,
+        Cause::Cut,
         "account 1 0 0\nproc 1 1 0\ncall 1 fsync a\n",
     ),
     (
@@ -318,7 +318,7 @@ const BEHIND: [(u32, Cause, &str); 16] = [
 /// What may stand behind it.
 const WHOLE: &str = "end\nevents 0\n|\
     account 1 0 0\nproc 1 1 0\ncall 1 creat a\ncall 1 write a 4095 2 7\ncall 1 read a 0 9\n\
-    call 1 unlink a\nend\nevents 0\n|\
+    call 1 fsync a\ncall 1 unlink a\nend\nevents 0\n|\
     end\nevents 0\n\0|\
     end\nevents 0\nevents 0\n|\
     end\nevents 1\nskip wb\nskip wb\n|\

@@ -41,6 +41,9 @@ use std::alloc::{AllocError, Global};
 use std::mem;
 use tag_table::{Table, TableTag};
 
+/// How many bytes a page has.
+const PAGE: u32 = 4096;
+
 /// The cache, and the store of its tags.
 #[derive(Drop)]
 pub(crate) struct Pages {
@@ -438,7 +441,7 @@ impl Pages {
                 to,
                 ..
             } => self.get(by, Buf::Page(serial, page), from, to),
-            Event::Drop { serial, .. } => self.cache.free(tags, serial),
+            Event::Drop { serial, .. } => self.cache.free(tags, serial, given.size.div_ceil(PAGE)),
             Event::Ret { by, .. } => self.cache.unpin(by),
             Event::Evict { serial, page, .. } => self.cache.evict(Buf::Page(serial, page)),
             Event::Done { .. } => if let Some(request) = given.request {

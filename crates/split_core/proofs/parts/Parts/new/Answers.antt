@@ -10,13 +10,14 @@ returns c =
       clients = c.in_ok-clients.ensures.clients;
       filing = c.in_ok-filing.ensures.filing;
       pages = c.in_ok-pages.ensures.pages tags;
-      tags = λ n. omega (arith, c.in_ok-tags.ensures n, c.in_ok-pages.ensures.none n, c.new-3.ensures.none n);
+      tags = λ n. omega (arith, c.in_ok-tags.ensures n, c.in_ok-pages.ensures.none n, c.new-4.ensures.none n);
       journaling = c.in_ok-pages.ensures.journaling tags;
+      syncs = c.in_ok-syncs.ensures;
       medium = c.in_ok-filing.ensures.medium;
       book = c.in_ok-clients.ensures.book;
       dispatch = c.in_ok-dispatch.ensures;
-      service = c.new-3.ensures.stands tags;
-      time = c.new-4.ensures;
+      service = c.new-4.ensures.stands tags;
+      time = c.new-5.ensures;
       money = c.in_ok-money.ensures.money;
       counts = c.in_ok-money.ensures.counts;
     }

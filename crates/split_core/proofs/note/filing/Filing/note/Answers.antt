@@ -11,7 +11,7 @@ make-requires c =
     in let given = rw c.in-Make.is at c.requires.given
     in record {
       may = make_may c.args.w.now c.args.h.now.events c.in-Make.by c.in-Make.slot c.in-Make.serial c.args.self.now
-          c.args.given.now.name c.requires.accepted fits c.requires.stands given (room refl);
+          c.args.given.now.name c.requires.accepted fits c.requires.stands given.name_is (room refl);
     }
 
 pub returns-in-Make : goal.returns-in-Make
@@ -20,8 +20,8 @@ returns-in-Make c =
     in let given = rw c.in-Make.is at c.requires.given
     in let does = c.make.ensures
     in rw c.in-Make.is (stands_make c.args.w.now c.args.h.now.events c.in-Make.by c.in-Make.slot c.in-Make.serial
-    c.args.self.now c.make.new.self c.args.given.now.name c.requires.accepted fits c.requires.stands given does.slots
-    does.counted does.first does.blocks)
+    c.args.self.now c.make.new.self c.args.given.now.name c.requires.accepted fits c.requires.stands given.name_is
+    does.slots does.counted does.first does.blocks)
 
 pub drop_file-requires : goal.drop_file-requires
 drop_file-requires c =

@@ -2,7 +2,7 @@
 use Rattle.tag_table.specs.Tags.{tags_of}
 use Rattle.std.proofs.Common.{arith, refl}
 use Rattle.split_core.proofs.PageTags.{tags_kept}
-use Rattle.split_core.proofs.PageKinds.{after_ret, get_loaded, after_get, after_drop, evicts, after_evict}
+use Rattle.split_core.proofs.PageKinds.{after_ret, get_loaded, after_get, drop_within, after_drop, evicts, after_evict}
 use Rattle.split_core.proofs.PageQuiet.{pages_other}
 use Rattle.split_core.proofs.note.pages.Pages.follow.Goals as goal
 
@@ -24,7 +24,16 @@ returns-in-Get-clause-pages c =
     c.get.ensures
 
 pub free-requires : goal.free-requires
-free-requires c = λ n. omega (arith, c.requires.before.tags n)
+free-requires c =
+    record {
+      tags = λ n. omega (arith, c.requires.before.tags n);
+      below = λ g held. omega (
+        arith,
+        drop_within c.args.w.now c.args.h.now.events c.args.e.now c.in-Drop.by c.in-Drop.slot c.in-Drop.serial
+            c.args.self.now (tags_of c.args.tags.now) c.args.given.now c.in-Drop.is c.requires.before c.requires.given g held,
+        c.div_ceil.ensures,
+      );
+    }
 
 pub returns-in-Drop-clause-pages : goal.returns-in-Drop-clause-pages
 returns-in-Drop-clause-pages c =
